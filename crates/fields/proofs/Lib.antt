@@ -1,0 +1,3 @@
+pub mod LineViews
+pub mod Views
+pub mod Words

@@ -1,0 +1,6 @@
+pub mod Faults
+pub mod Lines
+pub mod Numbers
+pub mod Places
+pub mod Results
+pub mod Words

@@ -1,0 +1,11 @@
+ghost use Prim.Native.Nat.{_≤_};
+
+mod listed;
+
+// Up to four numbers of one line.
+#[derive(Clone, Copy)]
+pub struct Numbers {
+    values: [u32; 4],
+    count: usize,
+    ghost few: { count ≤ 4 },
+}
