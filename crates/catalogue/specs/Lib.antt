@@ -1,6 +1,8 @@
 pub mod Catalogues
 pub mod Lawful
+pub mod Listed
 pub mod Cells
+pub mod Storing
 pub mod Writing
 pub mod Reading
 pub mod Outcomes

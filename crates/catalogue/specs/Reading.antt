@@ -33,6 +33,11 @@ asked k line holds x = cond holds (Ok x) (Err (fault k line))
 abbrev pub formed-line : {T : Type 0} → List ℕ → (List ℕ → Option T) → Position → Result (T × Position) Fault
 formed-line key form p = then (keyed-line key p) (λ v. mapped-ok (λ x. (x, v .1)) (found-or (fault WrongForm (p .line)) (form (v .0))))
 
+-- n things in turn
+abbrev pub repeated : {T : Type 0} → (Position → Result (T × Position) Fault) → ℕ → Position → Result (List T × Position) Fault
+repeated one zero p = Ok ([], p)
+repeated one (suc n) p = then (one p) (λ x. mapped-ok (λ xs. (x .0 ∷ xs .0, xs .1)) (repeated one n (x .1)))
+
 -- key=number, within bounds
 abbrev pub number-line : List ℕ → ℕ → ℕ → Position → Result (ℕ × Position) Fault
 number-line key low high p = then (formed-line key only-number p) (λ n. asked OutOfRange (p .line) (leb low (n .0) && leb (n .0) high) n)
@@ -48,8 +53,7 @@ abbrev pub slot-line : Position → Result (Slot × Position) Fault
 slot-line p = then (formed-line (codes "slot") slot-value p) (λ s. asked OutOfRange (p .line) (slot-lawful (s .0)) s)
 
 abbrev pub slots-lines : ℕ → Position → Result (List Slot × Position) Fault
-slots-lines zero p = Ok ([], p)
-slots-lines (suc n) p = then (slot-line p) (λ s. mapped-ok (λ ss. (s .0 ∷ ss .0, ss .1)) (slots-lines n (s .1)))
+slots-lines n p = repeated slot-line n p
 
 -- a number after a word and one space
 abbrev pub word-number : List ℕ → List ℕ → Option ℕ
@@ -80,8 +84,7 @@ abbrev pub row-line : List ℕ → Position → Result (List ℕ × Position) Fa
 row-line limits p = then (formed-line (codes "row") (row-value (length limits)) p) (λ r. asked OutOfRange (p .line) (row-lawful limits (r .0)) r)
 
 abbrev pub rows-lines : ℕ → List ℕ → Position → Result (List (List ℕ) × Position) Fault
-rows-lines zero limits p = Ok ([], p)
-rows-lines (suc n) limits p = then (row-line limits p) (λ r. mapped-ok (λ rs. (r .0 ∷ rs .0, rs .1)) (rows-lines n limits (r .1)))
+rows-lines n limits p = repeated (row-line limits) n p
 
 abbrev pub rule-lines : List Slot → Position → Result (Rule × Position) Fault
 rule-lines slots p =
@@ -91,8 +94,7 @@ rule-lines slots p =
     mapped-ok (λ rs. (record { kind = k .0; slots = o .0; rows = rs .0 }, rs .1)) (rows-lines (n .0) (map (offered slots) (o .0)) (n .1)))))
 
 abbrev pub rules-lines : ℕ → List Slot → Position → Result (List Rule × Position) Fault
-rules-lines zero slots p = Ok ([], p)
-rules-lines (suc n) slots p = then (rule-lines slots p) (λ r. mapped-ok (λ rs. (r .0 ∷ rs .0, rs .1)) (rules-lines n slots (r .1)))
+rules-lines n slots p = repeated (rule-lines slots) n p
 
 -- the catalogue that a text says, or its first fault
 abbrev pub reading : List ℕ → Result Catalogue Fault

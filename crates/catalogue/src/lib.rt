@@ -1,1 +1,6 @@
 pub mod model;
+mod checks;
+mod lines;
+mod reading;
+mod slots;
+mod storing;

@@ -1,7 +1,7 @@
 // A used slot: it offers the parts 1 to `parts`, and a standard one is never empty.
 #[derive(Clone, Copy, PartialEq, Debug)]
 pub struct Slot {
-    pub parts: u32,
+    pub parts: u16,
     pub standard: bool,
 }
 

@@ -1,7 +1,9 @@
 ghost use mathlib.Core.Path.{_≡_};
-ghost use lib.ListN.{take};
+ghost use Prim.Native.Nat.{_≤_};
+ghost use lib.ListN.{length};
 ghost use Rattle.std.specs.Options.{mapped};
 ghost use Rattle.fields.specs.Numbers.{after-space, numbers-up-to};
+ghost use Rattle.fields.specs.Values.{values-of};
 use super::Numbers;
 use crate::number::number;
 
@@ -21,7 +23,7 @@ pub fn past_space(text: &[u8]) -> Option<&[u8]>
 impl Numbers {
     // One to four numbers up to 99,999, one space apart, and nothing after them.
     pub fn read(text: &[u8]) -> Option<Numbers>
-        ensures { λ r. ⌜ mapped (λ n. take (n .count) (n .values)) r ≡ numbers-up-to 4 (now (text .entry)) ⌝ }
+        ensures { λ r. ⌜ mapped values-of r ≡ numbers-up-to 4 (now (text .entry)) ⌝ }
     {
         let mut values = [0u32; 4];
         let mut rest = text;
@@ -40,7 +42,8 @@ impl Numbers {
     }
 
     pub fn as_slice(&self) -> &[u32]
-        ensures { λ r. ⌜ now r ≡ take (now (self .entry) .count) (now (self .entry) .values) ⌝ }
+        ensures value { λ r. ⌜ now r ≡ values-of (now (self .entry)) ⌝ }
+        ensures few { λ r. ⌜ length (now r) ≤ 4 ⌝ }
     {
         &self.values[0..self.count]
     }

@@ -8,7 +8,7 @@ ghost use Rattle.std.specs.Options.{mapped};
 ghost use Rattle.std.specs.Results.{isErr};
 ghost use Rattle.std.specs.Vec.{made};
 ghost use Rattle.fields.specs.Results.{mapped-ok, ok-or, beside};
-ghost use Rattle.fields.specs.Places.{place-of};
+ghost use Rattle.fields.specs.Values.{place-of};
 ghost use Rattle.fields.specs.Lines.{cut-line, position, begun, next-line, keyed-line};
 use super::Reader;
 use crate::fault::Fault;

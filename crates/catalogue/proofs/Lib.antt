@@ -1,0 +1,4 @@
+pub mod CheckViews
+pub mod Held
+pub mod Loops
+pub mod Turns
