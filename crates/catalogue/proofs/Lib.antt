@@ -1,4 +1,14 @@
+pub mod CellLaws
 pub mod CheckViews
+pub mod FormLaws
 pub mod Held
+pub mod LawfulParts
+pub mod LineLaws
 pub mod Loops
+pub mod ReadCalls
+pub mod ReadingLaws
+pub mod RuleTurns
+pub mod Sizes
+pub mod SmallCells
+pub mod TheLaw
 pub mod Turns

@@ -96,14 +96,19 @@ rule-lines slots p =
 abbrev pub rules-lines : ℕ → List Slot → Position → Result (List Rule × Position) Fault
 rules-lines n slots p = repeated (rule-lines slots) n p
 
--- the catalogue that a text says, or its first fault
-abbrev pub reading : List ℕ → Result Catalogue Fault
-reading t =
-    then (begun t) (λ p.
+-- the lines before the rules: the mark, the used slots, at least one of them standard, and the count of rules
+abbrev pub head-lines : Position → Result ((ℕ × List Slot × ℕ) × Position) Fault
+head-lines p =
     then (number-line (codes "mark") 0 65535 p) (λ m.
     then (number-line (codes "slots") 1 24 (m .1)) (λ n.
     then (slots-lines (n .0) (n .1)) (λ s.
     then (asked NoStandardSlot (2 + n .0) (any (λ x. x .standard) (s .0)) s) (λ s.
-    then (number-line (codes "rules") 0 64 (s .1)) (λ c.
-    then (rules-lines (c .0) (s .0) (c .1)) (λ r.
-    asked TextAfterEnd (r .1 .line) (eqb (length (r .1 .text)) 0) (record { mark = m .0; slots = s .0; rules = r .0 }))))))))
+    mapped-ok (λ c. ((m .0, s .0, c .0), c .1)) (number-line (codes "rules") 0 64 (s .1))))))
+
+-- the catalogue that a text says, or its first fault
+abbrev pub reading : List ℕ → Result Catalogue Fault
+reading t =
+    then (begun t) (λ p.
+    then (head-lines p) (λ h.
+    then (rules-lines (h .0 .2) (h .0 .1) (h .1)) (λ r.
+    asked TextAfterEnd (r .1 .line) (eqb (length (r .1 .text)) 0) (record { mark = h .0 .0; slots = h .0 .1; rules = r .0 }))))

@@ -76,7 +76,9 @@ pub(crate) fn row_fits(slots: &Slots, of: &[u32], row: &[u32]) -> bool
     ensures { λ r. ⌜ r ≡ row-lawful (map (offered (listed (now (slots .entry)))) (now (of .entry))) (now (row .entry)) ⌝ }
 {
     match (of, row) {
-        ([s, of @ ..], [part, row @ ..]) => 1 <= *part && *part <= slots.parts(*s) && row_fits(slots, of, row),
+        ([s, of @ ..], [part, row @ ..]) => 1 <= *part
+            && *part <= slots.parts(*s)
+            && row_fits(slots, of, row),
         ([], []) => true,
         _ => false,
     }

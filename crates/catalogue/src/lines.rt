@@ -27,17 +27,28 @@ use fields::word::past_word;
 use fields::word::same_bytes;
 
 // The line key=number, its number within bounds.
-pub(crate) fn number_line(reader: &mut Reader, key: &[u8], low: u32, high: u32) -> Result<u32, Fault>
+pub(crate) fn number_line(
+    reader: &mut Reader,
+    key: &[u8],
+    low: u32,
+    high: u32,
+) -> Result<u32, Fault>
     ensures within { λ r. ⌜ made r (λ n. (low ≤ n) × (n ≤ high)) ⌝ }
     ensures value { λ r. ⌜ beside r (place-of (now (reader .exit))) ≡ number-line (now (key .entry)) low high (place-of (now (reader .entry))) ⌝ }
 {
     let line = reader.line();
     let value = reader.value_of(key)?;
     let Some(n) = only_number(value) else {
-        return Err(Fault { kind: FaultKind::WrongForm, line });
+        return Err(Fault {
+            kind: FaultKind::WrongForm,
+            line,
+        });
     };
     if n < low || n > high {
-        return Err(Fault { kind: FaultKind::OutOfRange, line });
+        return Err(Fault {
+            kind: FaultKind::OutOfRange,
+            line,
+        });
     }
     Ok(n)
 }
@@ -71,12 +82,21 @@ pub(crate) fn slot_line(reader: &mut Reader) -> Result<Slot, Fault>
     let line = reader.line();
     let value = reader.value_of(b"slot")?;
     let Some((parts, standard)) = slot_of(value) else {
-        return Err(Fault { kind: FaultKind::WrongForm, line });
+        return Err(Fault {
+            kind: FaultKind::WrongForm,
+            line,
+        });
     };
     if parts < 1 || parts > 15 {
-        return Err(Fault { kind: FaultKind::OutOfRange, line });
+        return Err(Fault {
+            kind: FaultKind::OutOfRange,
+            line,
+        });
     }
-    Ok(Slot { parts: parts as u16, standard })
+    Ok(Slot {
+        parts: parts as u16,
+        standard,
+    })
 }
 
 // The number after a word and one space.
@@ -105,10 +125,16 @@ pub(crate) fn kind_line(reader: &mut Reader, used: u32) -> Result<Kind, Fault>
     let line = reader.line();
     let value = reader.value_of(b"rule")?;
     let Some(kind) = kind_of(value) else {
-        return Err(Fault { kind: FaultKind::WrongForm, line });
+        return Err(Fault {
+            kind: FaultKind::WrongForm,
+            line,
+        });
     };
     if !kind_fits(kind, used) {
-        return Err(Fault { kind: FaultKind::OutOfRange, line });
+        return Err(Fault {
+            kind: FaultKind::OutOfRange,
+            line,
+        });
     }
     Ok(kind)
 }
@@ -120,16 +146,28 @@ pub(crate) fn of_line(reader: &mut Reader, used: u32, kind: Kind) -> Result<Numb
     let line = reader.line();
     let value = reader.value_of(b"of")?;
     let Some(slots) = Numbers::read(value) else {
-        return Err(Fault { kind: FaultKind::WrongForm, line });
+        return Err(Fault {
+            kind: FaultKind::WrongForm,
+            line,
+        });
     };
     if !all_used(slots.as_slice(), used) {
-        return Err(Fault { kind: FaultKind::OutOfRange, line });
+        return Err(Fault {
+            kind: FaultKind::OutOfRange,
+            line,
+        });
     }
     if !rise(slots.as_slice()) {
-        return Err(Fault { kind: FaultKind::SlotsNotRising, line });
+        return Err(Fault {
+            kind: FaultKind::SlotsNotRising,
+            line,
+        });
     }
     if !stands_apart(kind, slots.as_slice()) {
-        return Err(Fault { kind: FaultKind::TargetAmongSlots, line });
+        return Err(Fault {
+            kind: FaultKind::TargetAmongSlots,
+            line,
+        });
     }
     Ok(slots)
 }
@@ -139,7 +177,11 @@ fn row_of(text: &[u8], wide: usize) -> Option<Numbers>
     ensures { λ r. ⌜ mapped values-of r ≡ row-value wide (now (text .entry)) ⌝ }
 {
     let row = Numbers::read(text)?;
-    if row.as_slice().len() == wide { Some(row) } else { None }
+    if row.as_slice().len() == wide {
+        Some(row)
+    } else {
+        None
+    }
 }
 
 // A row's line: a part for each of the rule's slots, among those that the slot offers.
@@ -149,10 +191,16 @@ pub(crate) fn row_line(reader: &mut Reader, slots: &Slots, of: &[u32]) -> Result
     let line = reader.line();
     let value = reader.value_of(b"row")?;
     let Some(row) = row_of(value, of.len()) else {
-        return Err(Fault { kind: FaultKind::WrongForm, line });
+        return Err(Fault {
+            kind: FaultKind::WrongForm,
+            line,
+        });
     };
     if !row_fits(slots, of, row.as_slice()) {
-        return Err(Fault { kind: FaultKind::OutOfRange, line });
+        return Err(Fault {
+            kind: FaultKind::OutOfRange,
+            line,
+        });
     }
     Ok(row)
 }

@@ -1,5 +1,6 @@
 ghost use Prim.Native.Nat.{_≤_};
 use crate::model::Slot;
+
 mod listed;
 
 // The used slots of a catalogue, at most 24.

@@ -1,15 +1,15 @@
 -- Where a line is cut.
-use mathlib.Core.Path.{_≡_, refl}
-use mathlib.Core.List.{List, [], _∷_}
+use mathlib.Core.Path.{_≡_, refl, sym, ap}
+use mathlib.Core.List.{List, [], _∷_, _++_}
 use Prim.Native.Nat.{ℕ, zero, suc, _+_, _-_, _<_}
 use native.Mathlib.Omega.{arith}
 use native.Mathlib.Numerals.{add-one}
 use lib.Dec.{eqb}
-use lib.ListN.{length, getD, take, drop}
+use lib.ListN.{length, getD, take, drop, length-append}
 use Rattle.std.specs.declared.option.Option.{Option}
 use Rattle.std.specs.declared.option.Option.the-variants.{Some, None}
 use Rattle.std.proofs.shelf.Lists.{take-rest}
-use Rattle.std.proofs.shelf.Tests.{ne-eqb, eq-eqb, cond-both}
+use Rattle.std.proofs.shelf.Tests.{ne-eqb, eq-eqb, eqb-true, cond-both}
 use Rattle.fields.specs.Lines.{cut-line, longer}
 
 pub cut-none : (xs : List ℕ) → ((k : ℕ) → k < length xs → getD xs k 0 ≡ 10 → ⊥) → cut-line xs ≡ None
@@ -33,17 +33,20 @@ cut-at xs i l h e =
     rw (a, take-rest xs (i + 1), add-one, cut-suc xs i l h e)
 
 -- a line, its end and what follows make up the text
-abbrev Lengths : List ℕ → Option (List ℕ × List ℕ) → Type 0
-Lengths t None = Unit {0}
-Lengths t (Some p) = length (p .0) + 1 + length (p .1) ≡ length t
+abbrev Cuts : List ℕ → Option (List ℕ × List ℕ) → Type 0
+Cuts t None = Unit {0}
+Cuts t (Some p) = t ≡ p .0 ++ (10 ∷ p .1)
 
-lengths-longer : (c : ℕ) (t : List ℕ) (o : Option (List ℕ × List ℕ)) → Lengths t o → Lengths (c ∷ t) (longer c o)
-lengths-longer c t None h = tt
-lengths-longer c t (Some p) h = omega arith
+cuts-longer : (c : ℕ) (t : List ℕ) (o : Option (List ℕ × List ℕ)) → Cuts t o → Cuts (c ∷ t) (longer c o)
+cuts-longer c t None h = tt
+cuts-longer c t (Some p) h = ap (λ l. c ∷ l) h
 
-lengths : (t : List ℕ) → Lengths t (cut-line t)
-lengths [] = tt
-lengths (c ∷ cs) = cond-both (eqb c 10) (Some ([], cs)) (longer c (cut-line cs)) (Lengths (c ∷ cs)) (λ y. omega arith) (λ n. lengths-longer c cs (cut-line cs) (lengths cs))
+cuts : (t : List ℕ) → Cuts t (cut-line t)
+cuts [] = tt
+cuts (c ∷ cs) = cond-both (eqb c 10) (Some ([], cs)) (longer c (cut-line cs)) (Cuts (c ∷ cs)) (λ y. ap (λ (x : ℕ). x ∷ cs) (eqb-true c 10 y)) (λ n. cuts-longer c cs (cut-line cs) (cuts cs))
+
+pub cut-reads : (t : List ℕ) (p : List ℕ × List ℕ) → cut-line t ≡ Some p → t ≡ p .0 ++ (10 ∷ p .1)
+cut-reads t p e = rw e at (cuts t)
 
 pub cut-length : (t l r : List ℕ) → Some (l, r) ≡ cut-line t → length l + 1 + length r ≡ length t
-cut-length t l r e = rw (← e) at (lengths t)
+cut-length t l r e = omega (arith, simp length-append at (ap length (cut-reads t (l, r) (sym e))))

@@ -1,4 +1,5 @@
 pub mod Faults
+pub mod Law
 pub mod Lines
 pub mod Numbers
 pub mod Results

@@ -1,6 +1,7 @@
 ghost use mathlib.Core.Path.{_≡_};
 ghost use Prim.Native.Nat.{_≤_};
 ghost use Rattle.std.specs.Options.{Cases, mapped};
+ghost use Rattle.fields.specs.Law.{Reads-digits};
 ghost use Rattle.fields.specs.Numbers.{digit-first, number-on, number-at, only-number};
 
 // Does the text begin with a digit?
@@ -44,6 +45,7 @@ fn digits(text: &[u8], start: u64, max: u64) -> Option<(u64, &[u8])>
 pub fn number(text: &[u8], max: u64) -> Option<(u64, &[u8])>
     ensures within { λ r. ⌜ Cases r (Unit {0}) (λ x. x .0 ≤ max) ⌝ }
     ensures value { λ r. ⌜ mapped (λ x. (x .0, now (x .1))) r ≡ number-at max (now (text .entry)) ⌝ }
+    ensures law { λ _. ⌜ Reads-digits ⌝ }
 {
     let [first, rest @ ..] = text else {
         return None;

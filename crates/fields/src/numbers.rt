@@ -1,6 +1,7 @@
 ghost use Prim.Native.Nat.{_≤_};
 
 mod listed;
+
 pub use listed::past_space;
 
 // Up to four numbers of one line.

@@ -11,7 +11,13 @@ impl Slots {
     pub(crate) fn none() -> Slots
         ensures { λ r. ⌜ listed r ≡ [] ⌝ }
     {
-        Slots { list: [Slot { parts: 0, standard: false }; 24], used: 0 }
+        Slots {
+            list: [Slot {
+                parts: 0,
+                standard: false,
+            }; 24],
+            used: 0,
+        }
     }
 
     // One slot more.
@@ -44,7 +50,11 @@ impl Slots {
     {
         let list = self.as_slice();
         let at = slot as usize;
-        if at < list.len() { u32::from(list[at].parts) } else { 0 }
+        if at < list.len() {
+            u32::from(list[at].parts)
+        } else {
+            0
+        }
     }
 
     // Is a slot standard?

@@ -22,7 +22,8 @@ returns-in-Break-row c =
 pub loop-again : need.loop-again
 loop-again c =
     let m : c .args .rows - (c .loop .counter + 1) ≡ c .args .rows - c .loop .counter - 1 = omega arith in
-    let few = c .as-slice .ensures .few in
-    (omega arith,
-     rw (m, c .keep-all-end .ensures .after, c .keep-all-end .ensures .value, c .as-slice .ensures .value)
-     (turn-ok (λ (row : List ℕ). row) (c .loop .out) (c .loop .end) (row-line (map (offered (listed (c .args .slots .now))) (c .args .of .now))) (c .args .rows - c .loop .counter) (place-of (c .loop .reader)) _ (omega arith) (c .loop .inv .1) (values-of (c .in-Continue-row .row)) (place-of (c .row-line .last .reader)) (c .in-Continue-row .ensures tt)))
+    let few = c .as-slice .ensures .few in (
+      omega arith,
+      rw (m, c .keep-all-end .ensures .after, c .keep-all-end .ensures .value, c .as-slice .ensures .value)
+          (turn-ok (λ (row : List ℕ). row) (c .loop .out) (c .loop .end) (row-line (map (offered (listed (c .args .slots .now))) (c .args .of .now))) (c .args .rows - c .loop .counter) (place-of (c .loop .reader)) _ (omega arith) (c .loop .inv .1) (values-of (c .in-Continue-row .row)) (place-of (c .row-line .last .reader)) (c .in-Continue-row .ensures tt)),
+    )

@@ -14,4 +14,4 @@ abbrev pub Inv-loop : given.InvT-loop
 Inv-loop l =
     (l .end ≤ l .at + 4 * l .counter)
     × (mapped-ok (stored (joined (λ row. row)) (l .out) (l .end)) (rows-lines (l .rows - l .counter) (map (offered (listed (l .slots))) (l .of)) (place-of (l .reader)))
-       ≡ mapped-ok (stored (joined (λ row. row)) (l .entry .out) (l .at)) (rows-lines (l .rows) (map (offered (listed (l .slots))) (l .of)) (place-of (l .entry .reader))))
+    ≡ mapped-ok (stored (joined (λ row. row)) (l .entry .out) (l .at)) (rows-lines (l .rows) (map (offered (listed (l .slots))) (l .of)) (place-of (l .entry .reader))))

@@ -17,6 +17,7 @@ returns-in-Break-slot-line c =
 pub loop-again : need.loop-again
 loop-again c =
     let m : c .args .used - (c .loop .counter + 1) ≡ c .args .used - c .loop .counter - 1 = omega arith in
-    rw (c .push .ensures, m)
-    (length-push (listed (c .loop .slots)) (c .in-Continue-slot-line .field-0) ∙ ap (λ n. n + 1) (c .loop .inv .0),
-     sym (front-more slot-line (c .args .used - c .loop .counter) (place-of (c .loop .reader)) (omega arith) (listed (c .loop .slots)) (c .in-Continue-slot-line .field-0) (place-of (c .slot-line .last .reader)) (c .in-Continue-slot-line .ensures tt)) ∙ c .loop .inv .1)
+    rw (c .push .ensures, m) (
+      length-push (listed (c .loop .slots)) (c .in-Continue-slot-line .field-0) ∙ ap (λ n. n + 1) (c .loop .inv .0),
+      sym (front-more slot-line (c .args .used - c .loop .counter) (place-of (c .loop .reader)) (omega arith) (listed (c .loop .slots)) (c .in-Continue-slot-line .field-0) (place-of (c .slot-line .last .reader)) (c .in-Continue-slot-line .ensures tt)) ∙ c .loop .inv .1,
+    )

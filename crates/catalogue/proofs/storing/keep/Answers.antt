@@ -4,7 +4,7 @@ use Rattle.catalogue.proofs.storing.keep.Needs as need
 use Rattle.catalogue.proofs.storing.keep.Needs.{then-at-out, else-at-out}
 
 pub returns : need.returns
-returns c = record {
-    value = refl;
-    after = elim (c .if-at-out .came) [ then-at-out w ↦ w .out-is | else-at-out w ↦ w .out-is ∙ sym (set-past (c .args .out .now) (c .args .at) (c .args .cell) (w .if-at-out .left)) ];
-  }
+returns g c = record {
+  value = refl;
+  after = elim (c .if-at-out .came) [ then-at-out w ↦ w .out-is | else-at-out w ↦ w .out-is ∙ sym (set-past (c .args .out .now) (c .args .at) (c .args .item) (w .if-at-out .left)) ];
+}

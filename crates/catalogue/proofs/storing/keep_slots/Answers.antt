@@ -9,10 +9,11 @@ use Rattle.catalogue.specs.Storing.{over}
 use Rattle.catalogue.proofs.storing.keep_slots.Needs as need
 
 pub loop-slot-again : need.loop-slot-again
-loop-slot-again c =
-    (omega arith,
-     rw (c .keep-end .ensures .after, c .keep-end .ensures .value, c .slot-cell .ensures)
-     (sym (at-drop-more (λ (ss : List Slot). over (c .loop-slot .out) (c .loop-slot .end) (map slot-cell ss)) (c .as-slice-slot-items .result .now) (c .loop-slot .slot-index) _ (c .loop-slot-test .taken)) ∙ c .loop-slot .inv .1))
+loop-slot-again c = (
+  omega arith,
+  rw (c .keep-end .ensures .after, c .keep-end .ensures .value, c .slot-cell .ensures)
+      (sym (at-drop-more (λ (ss : List Slot). over (c .loop-slot .out) (c .loop-slot .end) (map slot-cell ss)) (c .as-slice-slot-items .result .now) (c .loop-slot .slot-index) _ (c .loop-slot-test .taken)) ∙ c .loop-slot .inv .1),
+)
 
 pub returns : need.returns
 returns c =
