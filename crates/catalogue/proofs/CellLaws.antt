@@ -7,9 +7,7 @@ use native.Mathlib.Nat.{zero-mul, suc-mul}
 use native.Mathlib.Omega.{arith}
 use lib.Dec.{leb, eqb}
 use lib.ListN.{length, take, drop, length-append, length-take, length-drop, length-map}
-use Rattle.std.specs.Options.{mapped}
 use Rattle.std.specs.shelf.Lists.{joined}
-use Rattle.std.specs.declared.option.Option.{Option}
 use Rattle.std.specs.declared.option.Option.the-variants.{Some, None}
 use Rattle.std.proofs.shelf.Lists.{take-append-drop, take-at, drop-at, nil-from-length}
 use Rattle.std.proofs.shelf.Tests.{false≢true, and-parts, and-from, leb-true, le-leb, eqb-true}
@@ -49,7 +47,7 @@ slot-said s h = go (s .parts) (s .standard) h
     go n true k = let e : n + 256 - 256 ≡ n = omega arith in rw e (grind (arith, tells))
     go n false k = rw k
 
-slots-say : (n : ℕ) (cs : List ℕ) (p : List Slot × List ℕ) → slots-of n cs ≡ Some p
+pub slots-say : (n : ℕ) (cs : List ℕ) (p : List Slot × List ℕ) → slots-of n cs ≡ Some p
     → (length (p .0) ≡ n) × (all slot-lawful (p .0) ≡ true) × (map slot-cell (p .0) ++ p .1 ≡ cs)
 slots-say zero cs p h = let e : _≡_ {A = List Slot × List ℕ} ([], cs) p = cc in rw (← e) (refl, refl, refl)
 slots-say (suc n) [] p h = never h
@@ -85,7 +83,7 @@ kind-said (Needs t) = refl
 kind-said (Bars t) = refl
 
 -- the front of the cells
-cut-says : (n : ℕ) (cs : List ℕ) (p : List ℕ × List ℕ) → cut-cells n cs ≡ Some p
+pub cut-says : (n : ℕ) (cs : List ℕ) (p : List ℕ × List ℕ) → cut-cells n cs ≡ Some p
     → (length (p .0) ≡ n) × (p .0 ++ p .1 ≡ cs)
 cut-says n cs p h =
     let e = cond-value (leb n (length cs)) (take n cs, drop n cs) p h in
@@ -102,13 +100,15 @@ counted-says [] p h = never h
 counted-says (c ∷ cs) p h = let e : _≡_ {A = ℕ × List ℕ} (c, cs) p = cc in rw (← e)
 
 -- rows
-rows-say : (n wide : ℕ) (cs : List ℕ) → length cs ≡ n * wide
-    → (length (rows-of n wide cs) ≡ n) × (joined (λ row. row) (rows-of n wide cs) ≡ cs)
-rows-say zero wide cs l = (refl, sym (nil-from-length cs (l ∙ zero-mul wide)))
+pub rows-count : (n wide : ℕ) (cs : List ℕ) → length (rows-of n wide cs) ≡ n
+rows-count zero wide cs = refl
+rows-count (suc n) wide cs = ap suc (rows-count n wide (drop wide cs))
+
+rows-say : (n wide : ℕ) (cs : List ℕ) → length cs ≡ n * wide → joined (λ row. row) (rows-of n wide cs) ≡ cs
+rows-say zero wide cs l = sym (nil-from-length cs (l ∙ zero-mul wide))
 rows-say (suc n) wide cs l =
     let m = suc-mul n wide in
-    let r = rows-say n wide (drop wide cs) (simp length-drop (omega arith)) in
-    (ap suc (r .0), ap (λ xs. take wide cs ++ xs) (r .1) ∙ take-append-drop wide cs)
+    ap (λ xs. take wide cs ++ xs) (rows-say n wide (drop wide cs) (simp length-drop (omega arith))) ∙ take-append-drop wide cs
 
 pub row-wide : (limits row : List ℕ) → row-lawful limits row ≡ true → length row ≡ length limits
 row-wide [] [] h = refl
@@ -160,7 +160,8 @@ module _ (slots : List Slot) where
       let d = cut-says (n .0 * wide) (n .1) flat is-flat in
       let f = rows-say (n .0) wide (flat .0) (d .0) in
       let g = append-assoc (own .0) (length rows ∷ joined (λ row. row) rows) (flat .1) in
-      rw (← e .1) (e .0, rw (g, a .0, a .1, b .0, f .0, f .1, d .1, c, b .1))))))
+      let count = rows-count (n .0) wide (flat .0) in
+      rw (← e .1) (e .0, rw (g, a .0, a .1, b .0, count, f, d .1, c, b .1))))))
 
   rule-said : (r : Rule) (rest : List ℕ) → rule-lawful slots r ≡ true → rule-of slots (rule-cells r ++ rest) ≡ Some (r, rest)
   rule-said r rest h =
@@ -173,7 +174,7 @@ module _ (slots : List Slot) where
       let rest-cut = cut-said (length (r .rows) * length (r .slots)) flat rest (rw (← wide) (rows-length limits (r .rows) each)) in
       rw (kind-said (r .kind), append-assoc, own, rest-cut, rows, h)
 
-  rules-say : (n : ℕ) (cs : List ℕ) (rs : List Rule) → rules-of n slots cs ≡ Some rs
+  pub rules-say : (n : ℕ) (cs : List ℕ) (rs : List Rule) → rules-of n slots cs ≡ Some rs
       → (length rs ≡ n) × (all (rule-lawful slots) rs ≡ true) × (joined rule-cells rs ≡ cs)
   rules-say zero cs rs h =
       let e = cond-value (eqb (length cs) 0) [] rs h in

@@ -75,6 +75,6 @@ module _ (t out out′ : List ℕ) (n : ℕ) (e : Ok (n, out′) ≡ mapped-ok (
     part-fits = rw same-part (simp length-take (omega arith), read-cells (length old) few fits long .1)
 
     pub laid-cells : (new : List ℕ) → new ≡ take (n - 0) out′ ++ drop (length (take (n - 0) out′)) old
-      → (Ok n ≡ mapped-ok length (read-into (length old) t)) × (new ≡ laid (read-into (length old) t) old)
+        → (Ok n ≡ mapped-ok length (read-into (length old) t)) × (new ≡ laid (read-into (length old) t) old)
     laid-cells new e =
         (sym (counted-cells (length old) few fits), (rw same-part at e) ∙ rw (read-cells (length old) few fits long .0))

@@ -19,9 +19,11 @@ use Rattle.catalogue.specs.declared.model.Kind.the-variants.{Goes, Needs, Bars
 use Rattle.catalogue.specs.declared.model.Slot.{Slot}
 use Rattle.catalogue.specs.Catalogues.{Rule, Catalogue}
 use Rattle.catalogue.specs.Cells.{slot-cell, rule-cells, cells-of}
+use Rattle.catalogue.specs.Headed.{head-text}
 use Rattle.catalogue.specs.Lawful.{all, slot-lawful, kind-lawful, offered, row-lawful, rule-lawful, lawful}
 use Rattle.catalogue.specs.Writing.{line, number-text, standing-word, kind-words, list-text, slot-text, slots-text, rows-text, rule-text, rules-text, text-of}
 use Rattle.catalogue.proofs.CellLaws.{row-wide, rows-length}
+use Rattle.catalogue.proofs.TextPieces.{head-then-rules}
 
 -- lines
 line-length : (l rest : List ℕ) → length (line l rest) ≡ length l + 1 + length rest
@@ -92,20 +94,20 @@ module _ (slots : List Slot) (few : length slots ≤ 24) (offer : all slot-lawfu
       let most = offered-few slots s offer in
       (grind (arith, tells), parts-small own row (b .1))
 
+  -- 4 bytes for each row and 3 for each of its parts, of which it has at least one
   rows-short : (own : List ℕ) → 1 ≤ length own → (rows : List (List ℕ)) (rest : List ℕ)
       → all (row-lawful (map (offered slots) own)) rows ≡ true
-      → length (rows-text rows rest) ≤ 7 * length (joined (λ row. row) rows) + length rest
-  rows-short own some [] rest h = omega arith
+      → (length rows ≤ length (joined (λ row. row) rows))
+      × (length (rows-text rows rest) ≤ 4 * length rows + 3 * length (joined (λ row. row) rows) + length rest)
+  rows-short own some [] rest h = (omega arith, omega arith)
   rows-short own some (row ∷ rows) rest h =
       let limits = map (offered slots) own in
       let b = and-parts (row-lawful limits row) (all (row-lawful limits) rows) h in
       let wide : 1 ≤ length row = omega (arith, row-wide limits row (b .0), length-map own (offered slots)) in
-      omega (
-        arith,
-        list-line-short (codes "row") row (rows-text rows rest) wide (parts-small own row (b .0)),
-        rows-short own some rows rest (b .1),
-        length-append row (joined (λ row. row) rows),
-      )
+      let this = list-line-short (codes "row") row (rows-text rows rest) wide (parts-small own row (b .0)) in
+      let others = rows-short own some rows rest (b .1) in
+      let cells = length-append row (joined (λ row. row) rows) in
+      (omega arith, omega arith)
 
   kind-short : (k : Kind) → kind-lawful (length slots) k ≡ true → length (kind-words k) ≤ 8
   kind-short Goes h = omega arith
@@ -113,7 +115,8 @@ module _ (slots : List Slot) (few : length slots ≤ 24) (offer : all slot-lawfu
   kind-short (Bars t) h = omega (arith, two-digits t (omega (arith, ltb-true t (length slots) h)))
 
   rule-short : (r : Rule) (rest : List ℕ) → rule-lawful slots r ≡ true
-      → length (rule-text r rest) ≤ 7 * length (rule-cells r) + length rest
+      → (length (r .rows) + 4 ≤ length (rule-cells r))
+      × (length (rule-text r rest) ≤ 4 * length (r .rows) + 3 * length (rule-cells r) + 14 + length rest)
   rule-short r rest h =
       let target : kind-lawful (length slots) (r .kind) ≡ true = grind (arith, tells) in
       let some : 1 ≤ length (r .slots) = grind (arith, tells) in
@@ -123,14 +126,16 @@ module _ (slots : List Slot) (few : length slots ≤ 24) (offer : all slot-lawfu
       let after-count = rows-text (r .rows) rest in
       let after-of = line (number-text (codes "rows") (length (r .rows))) after-count in
       let after-kind = line (list-text (codes "of") (r .slots)) after-of in
-      omega (
-        arith,
-        kind-short (r .kind) target,
-        line-length (kind-words (r .kind)) after-kind,
-        list-line-short (codes "of") (r .slots) after-of some (used-small (length slots) few (r .slots) used),
-        number-line-short (codes "rows") 3 (length (r .rows)) after-count (omega arith) (omega arith) (omega arith),
-        rows-short (r .slots) some (r .rows) rest each,
-        length-append (r .slots) (length (r .rows) ∷ joined (λ row. row) (r .rows)),
+      let cells = length-append (r .slots) (length (r .rows) ∷ joined (λ row. row) (r .rows)) in
+      let rows = rows-short (r .slots) some (r .rows) rest each in (
+        omega arith,
+        omega (
+          arith,
+          kind-short (r .kind) target,
+          line-length (kind-words (r .kind)) after-kind,
+          list-line-short (codes "of") (r .slots) after-of some (used-small (length slots) few (r .slots) used),
+          number-line-short (codes "rows") 3 (length (r .rows)) after-count (omega arith) (omega arith) (omega arith),
+        ),
       )
 
   rules-short : (rs : List Rule) (rest : List ℕ) → all (rule-lawful slots) rs ≡ true
@@ -145,6 +150,21 @@ module _ (slots : List Slot) (few : length slots ≤ 24) (offer : all slot-lawfu
         length-append (rule-cells r) (joined rule-cells rs),
       )
 
+-- 17 bytes for each slot, and the lines of mark and counts
+pub head-text-short : (mark : ℕ) (slots : List Slot) (rules : ℕ) → mark ≤ 65535 → length slots ≤ 24 → all slot-lawful slots ≡ true → rules ≤ 64
+    → length (head-text mark slots rules) ≤ 17 * length slots + 29
+head-text-short mark slots rules fits few offer most =
+    let after-slots = line (number-text (codes "rules") rules) [] in
+    let after-used = slots-text slots after-slots in
+    let after-mark = line (number-text (codes "slots") (length slots)) after-used in
+    omega (
+      arith,
+      number-line-short (codes "mark") 5 mark after-mark (omega arith) (omega arith) (omega arith),
+      number-line-short (codes "slots") 2 (length slots) after-used (omega arith) (omega arith) (omega arith),
+      slots-short slots after-slots offer,
+      number-line-short (codes "rules") 2 rules [] (omega arith) (omega arith) (omega arith),
+    )
+
 -- 7 bytes for each cell, 10 more for each slot, and 8 more for the lines of mark and counts
 pub text-short : (c : Catalogue) → lawful c ≡ true → length (text-of c) ≤ 7 * length (cells-of c) + 248
 text-short c h =
@@ -153,16 +173,10 @@ text-short c h =
     let offer : all slot-lawful (c .slots) ≡ true = grind (arith, tells) in
     let most : length (c .rules) ≤ 64 = grind (arith, tells) in
     let each : all (rule-lawful (c .slots)) (c .rules) ≡ true = grind (arith, tells) in
-    let after-count = rules-text (c .rules) [] in
-    let after-slots = line (number-text (codes "rules") (length (c .rules))) after-count in
-    let after-used = slots-text (c .slots) after-slots in
-    let after-mark = line (number-text (codes "slots") (length (c .slots))) after-used in
     omega (
       arith,
-      number-line-short (codes "mark") 5 (c .mark) after-mark (omega arith) (omega arith) (omega arith),
-      number-line-short (codes "slots") 2 (length (c .slots)) after-used (omega arith) (omega arith) (omega arith),
-      slots-short (c .slots) after-slots offer,
-      number-line-short (codes "rules") 2 (length (c .rules)) after-count (omega arith) (omega arith) (omega arith),
+      head-then-rules c .long,
+      head-text-short (c .mark) (c .slots) (length (c .rules)) mark few offer most,
       rules-short (c .slots) few offer (c .rules) [] each,
       length-append (map slot-cell (c .slots)) (length (c .rules) ∷ joined rule-cells (c .rules)),
       length-map (c .slots) slot-cell,
@@ -184,3 +198,9 @@ rule-cells-few slots r h =
       rows-length limits (r .rows) each,
       length-append (r .slots) (length (r .rows) ∷ joined (λ row. row) (r .rows)),
     )
+
+pub rule-text-short : (slots : List Slot) (r : Rule) → rule-lawful slots r ≡ true → length slots ≤ 24 → all slot-lawful slots ≡ true → length (rule-text r []) ≤ 5000
+rule-text-short slots r h few offer =
+    let most : length (r .rows) ≤ 255 = grind (arith, tells) in
+    let short = rule-short slots few offer r [] h in
+    omega (arith, rule-cells-few slots r h)

@@ -41,22 +41,32 @@ rule-small : (slots : List Slot) → length slots ≤ 24 → all slot-lawful slo
 rule-small slots few good r h =
     let parts = rule-parts slots r h in
     let of = of-parts (length slots) (r .kind) (r .slots) (parts .of) in
-    let count = leb-true (length (r .rows)) 255 (parts .count) in
-    (kind-small (r .kind),
-     (omega (arith, target-few (length slots) few (r .kind) (parts .kind)),
-      (omega (arith, of .few),
-       all-append Small (r .slots) _ (all-means _ (λ s b. omega (arith, ltb-true s (length slots) b)) (r .slots) (of .below))
-       (omega arith,
-        all-joined Small (row-lawful (map (offered slots) (r .slots))) (λ row. row)
-        (λ row b. all-weaker (λ n. n ≤ 15) Small (λ n l. omega arith) row (row-few (map (offered slots) (r .slots)) row (limits-few slots good (r .slots)) b .0))
-        (r .rows) (parts .rows)))))
+    let count = leb-true (length (r .rows)) 255 (parts .count) in (
+      kind-small (r .kind),
+      (
+        omega (arith, target-few (length slots) few (r .kind) (parts .kind)),
+        (
+          omega (arith, of .few),
+          all-append Small (r .slots) _ (all-means _ (λ s b. omega (arith, ltb-true s (length slots) b)) (r .slots) (of .below)) (
+            omega arith,
+            all-joined Small (row-lawful (map (offered slots) (r .slots))) (λ row. row)
+                (λ row b. all-weaker (λ n. n ≤ 15) Small (λ n l. omega arith) row (row-few (map (offered slots) (r .slots)) row (limits-few slots good (r .slots)) b .0))
+                (r .rows) (parts .rows),
+          ),
+        ),
+      ),
+    )
 
 pub cells-small : (c : Catalogue) → lawful c ≡ true → All Small (cells-of c)
 cells-small c h =
     let parts = lawful-parts c h in
-    let few = within 1 24 (length (c .slots)) (parts .used) .1 in
-    (omega (arith, leb-true (c .mark) 65535 (parts .mark)),
-     (omega arith,
-      all-append Small (map slot-cell (c .slots)) _ (all-map Small slot-cell (c .slots) (all-means slot-lawful slot-small (c .slots) (parts .slots)))
-      (omega (arith, leb-true (length (c .rules)) 64 (parts .count)),
-       all-joined Small (rule-lawful (c .slots)) rule-cells (rule-small (c .slots) few (parts .slots)) (c .rules) (parts .rules))))
+    let few = within 1 24 (length (c .slots)) (parts .used) .1 in (
+      omega (arith, leb-true (c .mark) 65535 (parts .mark)),
+      (
+        omega arith,
+        all-append Small (map slot-cell (c .slots)) _ (all-map Small slot-cell (c .slots) (all-means slot-lawful slot-small (c .slots) (parts .slots))) (
+          omega (arith, leb-true (length (c .rules)) 64 (parts .count)),
+          all-joined Small (rule-lawful (c .slots)) rule-cells (rule-small (c .slots) few (parts .slots)) (c .rules) (parts .rules),
+        ),
+      ),
+    )

@@ -5,5 +5,6 @@ pub mod Cells
 pub mod Storing
 pub mod Writing
 pub mod Reading
+pub mod Headed
 pub mod Outcomes
 pub mod Law

@@ -6,6 +6,8 @@ pub mod model;
 mod reading;
 mod slots;
 mod storing;
+mod writing;
 
 pub use calls::check;
 pub use calls::read;
+pub use cells::is_lawful;

@@ -3,6 +3,7 @@ ghost use lib.ListN.{length};
 ghost use denote.Ref.{now};
 
 mod lines;
+mod state;
 
 // A text that is read line by line: the number of the next line, from 1, and the bytes from there on.
 #[derive(Drop)]

@@ -1,7 +1,10 @@
 ghost use mathlib.Core.Path.{_≡_};
+ghost use mathlib.Core.Bool.{cond};
 ghost use Prim.Native.Nat.{_≤_};
+ghost use lib.Dec.{leb};
 ghost use lib.ListN.{length};
 ghost use Rattle.std.specs.Options.{mapped};
+ghost use Rattle.std.specs.declared.option.Option.the-variants.{Some, None};
 ghost use Rattle.fields.specs.Numbers.{after-space, numbers-up-to};
 ghost use Rattle.fields.specs.Values.{values-of};
 use super::Numbers;
@@ -39,6 +42,23 @@ impl Numbers {
             rest = past_space(after)?;
         }
         None
+    }
+
+    // The numbers of at most four cells.
+    pub fn of_cells(cells: &[u16]) -> Option<Numbers>
+        ensures { λ r. ⌜ mapped values-of r ≡ cond (leb (length (now (cells .entry))) 4) (Some (now (cells .entry))) None ⌝ }
+    {
+        if cells.len() > 4 {
+            return None;
+        }
+        let mut values = [0u32; 4];
+        for (i, cell) in cells.iter().enumerate() {
+            values[i] = u32::from(*cell);
+        }
+        Some(Numbers {
+            values,
+            count: cells.len(),
+        })
     }
 
     pub fn as_slice(&self) -> &[u32]

@@ -1,8 +1,6 @@
 ghost use mathlib.Core.Path.{_≡_};
 ghost use mathlib.Core.Bool.{true};
-ghost use mathlib.Core.List.{[]};
 ghost use Prim.Native.Nat.{_+_, _<_};
-ghost use lib.Dec.{eqb};
 ghost use lib.ListN.{length};
 ghost use Rattle.std.specs.Options.{mapped};
 ghost use Rattle.std.specs.Results.{isErr};
@@ -29,13 +27,6 @@ fn cut(text: &[u8]) -> Option<(&[u8], &[u8])>
 }
 
 impl<'a> Reader<'a> {
-    // A reader that has no text yet.
-    pub fn new() -> Reader<'a>
-        ensures { λ r. ⌜ place-of r ≡ position 1 [] ⌝ }
-    {
-        Reader { line: 1, text: &[] }
-    }
-
     // Goes to the start of a text, unless that is too long to be read.
     pub fn open(&mut self, text: &'a [u8]) -> Result<(), Fault>
         ensures value { λ r. ⌜ r ≡ mapped-ok (λ _. tt) (begun (now (text .entry))) ⌝ }
@@ -50,20 +41,6 @@ impl<'a> Reader<'a> {
         self.line = 1;
         self.text = text;
         Ok(())
-    }
-
-    // The number of the line that comes next.
-    pub fn line(&self) -> u32
-        ensures { λ r. ⌜ r ≡ place-of (now (self .entry)) .line ⌝ }
-    {
-        self.line
-    }
-
-    // Is the text at its end?
-    pub fn is_end(&self) -> bool
-        ensures { λ r. ⌜ r ≡ eqb (length (place-of (now (self .entry)) .text)) 0 ⌝ }
-    {
-        self.text.is_empty()
     }
 
     // The line that comes next, without its end, and the text after it.

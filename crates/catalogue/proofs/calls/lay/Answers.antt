@@ -13,9 +13,10 @@ cast-cells c = omega (arith, all-getD (λ n. n < 2 ^ 16) (c .args .numbers .now)
 pub loop-i-again : need.loop-i-again
 loop-i-again c =
     let xs = c .args .numbers .now in
-    let i = c .loop-i .i in
-    (take-more-set (c .loop-i .cells) i (getD xs i 0) (omega arith) ∙ ap (λ ys. ys ++ getD xs i 0 ∷ []) (c .loop-i .inv .0) ∙ sym (take-more xs i 0 (c .loop-i-test .taken)),
-     drop-set-lt (i + 1) (c .loop-i .cells) i (getD xs i 0) (omega arith) ∙ sym (drop-drop 1 i (c .loop-i .cells)) ∙ ap (drop 1) (c .loop-i .inv .1) ∙ drop-drop 1 i (c .args .cells .now))
+    let i = c .loop-i .i in (
+      take-more-set (c .loop-i .cells) i (getD xs i 0) (omega arith) ∙ ap (λ ys. ys ++ getD xs i 0 ∷ []) (c .loop-i .inv .0) ∙ sym (take-more xs i 0 (c .loop-i-test .taken)),
+      drop-set-lt (i + 1) (c .loop-i .cells) i (getD xs i 0) (omega arith) ∙ sym (drop-drop 1 i (c .loop-i .cells)) ∙ ap (drop 1) (c .loop-i .inv .1) ∙ drop-drop 1 i (c .args .cells .now),
+    )
 
 pub returns : need.returns
 returns c =

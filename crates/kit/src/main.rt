@@ -1,0 +1,71 @@
+ghost use Prim.Native.Nat.{_≤_};
+ghost use lib.ListN.{length};
+ghost use Rattle.std.specs.Vec.{made};
+use catalogue::read;
+use fields::fault::Fault;
+use fields::fault::Layer;
+use std::fs::File;
+use std::io;
+use std::io::Read;
+
+// One byte more than a catalogue may have, so that a longer one is seen to be too long.
+const TEXT_ROOM: usize = 65_537;
+
+const CELL_ROOM: usize = 8192;
+
+// Reads until the source ends or the buffer is full, and answers how many bytes came.
+fn fill<R: Read>(from: &mut R, buffer: &mut [u8]) -> io::Result<usize>
+    ensures { λ r. ⌜ made r (λ n. n ≤ length (now (buffer .entry))) ⌝ }
+{
+    let mut n = 0;
+    while n < buffer.len() {
+        let got = from.read(&mut buffer[n..])?;
+        if got == 0 {
+            break;
+        }
+        n += got;
+    }
+    Ok(n)
+}
+
+fn layer_name(layer: Layer) -> &'static str {
+    match layer {
+        Layer::Line => "line",
+        Layer::Field => "field",
+        Layer::Catalogue => "catalogue",
+    }
+}
+
+// A refusal: its line, its number and the layer that asked.
+fn print_fault(rt: &LibcRuntime, fault: Fault) -> io::Result<()> {
+    let line = fault.line;
+    let code = fault.kind.number();
+    match fault.kind.layer() {
+        Some(layer) => {
+            let name = layer_name(layer);
+            println!(rt, "line={line} code={code} layer={name}")
+        }
+        None => println!(rt, "line={line} code={code}"),
+    }
+}
+
+fn print_cells(rt: &LibcRuntime, cells: &[u16]) -> io::Result<()> {
+    let count = cells.len();
+    print!(rt, "cells={count}:")?;
+    for cell in cells {
+        print!(rt, " {cell}")?;
+    }
+    println!(rt, "")
+}
+
+fn main(rt: LibcRuntime) -> io::Result<()> {
+    let mut text = [0u8; TEXT_ROOM];
+    let mut file = File::open(&rt, "catalogue.txt")?;
+    let long = fill(&mut file, &mut text)?;
+    println!(rt, "catalogue.txt: {long} bytes")?;
+    let mut cells = [0u16; CELL_ROOM];
+    match read(&text[0..long], &mut cells) {
+        Ok(count) => print_cells(&rt, &cells[0..count]),
+        Err(fault) => print_fault(&rt, fault),
+    }
+}
