@@ -142,7 +142,7 @@ module _ (limits : List ℕ) where
 
 -- rules over the same slots
 module _ (slots : List Slot) where
-  rule-says : (cs : List ℕ) (p : Rule × List ℕ) → rule-of slots cs ≡ Some p
+  pub rule-says : (cs : List ℕ) (p : Rule × List ℕ) → rule-of slots cs ≡ Some p
       → (rule-lawful slots (p .0) ≡ true) × (rule-cells (p .0) ++ p .1 ≡ cs)
   rule-says [] p h = never h
   rule-says (k ∷ []) p h = never h

@@ -10,9 +10,11 @@ pub mod Puts
 pub mod ReadCalls
 pub mod ReadingLaws
 pub mod RuleTurns
+pub mod RuleWrites
 pub mod Sizes
 pub mod SmallCells
 pub mod TextPieces
 pub mod TheLaw
 pub mod Turns
 pub mod WholeCells
+pub mod WriteCalls

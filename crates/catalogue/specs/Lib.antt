@@ -1,10 +1,10 @@
 pub mod Catalogues
 pub mod Lawful
-pub mod Listed
 pub mod Cells
-pub mod Storing
 pub mod Writing
 pub mod Reading
-pub mod Headed
 pub mod Outcomes
 pub mod Law
+pub mod Listed
+pub mod Headed
+pub mod Storing

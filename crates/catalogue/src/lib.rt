@@ -10,4 +10,5 @@ mod writing;
 
 pub use calls::check;
 pub use calls::read;
+pub use calls::write;
 pub use cells::is_lawful;

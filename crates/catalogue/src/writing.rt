@@ -1,16 +1,22 @@
 ghost use mathlib.Core.Path.{_≡_};
+ghost use mathlib.Core.Bool.{true};
 ghost use mathlib.Core.List.{[], _∷_, _++_};
 ghost use Prim.Native.Nat.{_+_, _*_, _<_, _≤_, _^_};
 ghost use lib.Chars.{codes};
 ghost use lib.ListN.{length};
+ghost use Rattle.std.specs.Options.{mapped};
 ghost use Rattle.std.specs.Written.{decimal};
 ghost use Rattle.fields.specs.Texts.{spaced-text, numbers-text, keyed-text};
-ghost use Rattle.catalogue.specs.Cells.{rows-of};
+ghost use Rattle.catalogue.specs.Cells.{rows-of, rules-of, catalogue-of};
 ghost use Rattle.catalogue.specs.Headed.{head-text};
+ghost use Rattle.catalogue.specs.Lawful.{all, slot-lawful};
 ghost use Rattle.catalogue.specs.Listed.{listed, rule-in};
-ghost use Rattle.catalogue.specs.Storing.{over};
+ghost use Rattle.catalogue.specs.Storing.{over, written-rules, written};
 ghost use Rattle.catalogue.specs.Writing.{line, standing-word, kind-words, slot-text, slots-text, rows-text, rule-text};
 use crate::cells::RuleCells;
+use crate::cells::slots_of_cells;
+use crate::cells::take_catalogue;
+use crate::cells::take_rule;
 use crate::model::Kind;
 use crate::model::Slot;
 use crate::slots::Slots;
@@ -147,7 +153,7 @@ fn put_rows(out: &mut [u8], at: usize, count: usize, wide: usize, rows: &[u16]) 
 }
 
 // The lines of a rule.
-pub(crate) fn put_rule(out: &mut [u8], at: usize, rule: RuleCells) -> usize
+fn put_rule(out: &mut [u8], at: usize, rule: RuleCells) -> usize
     requires room { ⌜ at + length (rule-text (rule-in rule) []) < 2 ^ 32 ⌝ }
     requires count { ⌜ rule .count < 2 ^ 32 ⌝ }
     requires cells { ⌜ rule .count * length (now (rule .slots)) ≤ length (now (rule .rows)) ⌝ }
@@ -161,7 +167,7 @@ pub(crate) fn put_rule(out: &mut [u8], at: usize, rule: RuleCells) -> usize
 }
 
 // The lines before the rules, at the front of the buffer.
-pub(crate) fn put_head(out: &mut [u8], mark: u16, slots: &Slots, rules: u32) -> usize
+fn put_head(out: &mut [u8], mark: u16, slots: &Slots, rules: u32) -> usize
     requires { ⌜ length (head-text mark (listed (now slots)) rules) < 2 ^ 32 ⌝ }
     ensures value { λ r. ⌜ r ≡ length (head-text mark (listed (now (slots .entry))) rules) ⌝ }
     ensures after { λ _. ⌜ now (out .exit) ≡ over (now (out .entry)) 0 (head-text mark (listed (now (slots .entry))) rules) ⌝ }
@@ -170,4 +176,29 @@ pub(crate) fn put_head(out: &mut [u8], mark: u16, slots: &Slots, rules: u32) -> 
     let end = put_number_line(out, end, b"slots=", slots.used());
     let end = put_slots(out, end, slots);
     put_number_line(out, end, b"rules=", rules)
+}
+
+// The text of the lawful rules that are all the cells; answers where it ends.
+fn put_rules(out: &mut [u8], at: usize, slots: &Slots, count: u16, cells: &[u16]) -> Option<usize>
+    requires { ⌜ at ≤ 1000 ⌝ ∗ ⌜ count ≤ 64 ⌝ ∗ ⌜ all slot-lawful (listed (now slots)) ≡ true ⌝ }
+    ensures { λ r. ⌜ mapped (λ end. (end, now (out .exit))) r ≡ mapped (written-rules (now (out .entry)) at) (rules-of count (listed (now (slots .entry))) (now (cells .entry))) ⌝ }
+{
+    let mut end = at;
+    let mut left = cells;
+    for _ in 0..count {
+        let (rule, after) = take_rule(left, slots)?;
+        end = put_rule(out, end, rule);
+        left = after;
+    }
+    if left.is_empty() { Some(end) } else { None }
+}
+
+// The text of the lawful catalogue that the cells say; answers how long it is.
+pub(crate) fn put_catalogue(out: &mut [u8], cells: &[u16]) -> Option<usize>
+    ensures { λ r. ⌜ mapped (λ end. (end, now (out .exit))) r ≡ mapped (written (now (out .entry))) (catalogue-of (now (cells .entry))) ⌝ }
+{
+    let catalogue = take_catalogue(cells)?;
+    let slots = slots_of_cells(catalogue.slots)?;
+    let end = put_head(out, catalogue.mark, &slots, u32::from(catalogue.count));
+    put_rules(out, end, &slots, catalogue.count, catalogue.rules)
 }

@@ -2,7 +2,7 @@ ghost use mathlib.Core.Path.{_≡_};
 ghost use mathlib.Core.List.{map};
 ghost use Prim.Native.Nat.{_≤_};
 ghost use lib.ListN.{length};
-ghost use Rattle.std.specs.Options.{isSome, mapped};
+ghost use Rattle.std.specs.Options.{Cases, isSome, mapped};
 ghost use Rattle.fields.specs.Results.{and-then};
 ghost use Rattle.catalogue.specs.Cells.{slot-of, kind-of, cut-cells, rows-of, rule-of, rules-of, catalogue-of};
 ghost use Rattle.catalogue.specs.Lawful.{all, offered, row-lawful, rule-lawful};
@@ -155,7 +155,8 @@ fn rules_fit(slots: &Slots, count: u16, cells: &[u16]) -> bool
 
 // At most 8,192 cells, taken apart as those of a catalogue of at most 64 rules: its slots and rules are not looked at.
 pub(crate) fn take_catalogue<'a>(cells: &'a [u16]) -> Option<CatalogueCells<'a>>
-    ensures { λ r. ⌜ and-then r catalogue-in ≡ catalogue-of (now (cells .entry)) ⌝ }
+    ensures few { λ r. ⌜ Cases r (Unit {0}) (λ c. (c .mark ≤ 65535) × (c .count ≤ 64)) ⌝ }
+    ensures value { λ r. ⌜ and-then r catalogue-in ≡ catalogue-of (now (cells .entry)) ⌝ }
 {
     let [mark, used, rest @ ..] = cells else {
         return None;

@@ -5,17 +5,26 @@ use Rattle.catalogue.proofs.WholeCells.{catalogue-slotless, catalogue-countles
 use Rattle.catalogue.proofs.cells.taken.take_catalogue.Needs as need
 
 pub returns-in-Break-slots : need.returns-in-Break-slots
-returns-in-Break-slots c = rw (c .from-residual .ensures) (catalogue-slotless (c .args .cells .now) (omega (arith, ltb-false)) (c .from .ensures) (grind (arith, tells)))
+returns-in-Break-slots c = rw (c .from-residual .ensures) (record { few = tt; value = catalogue-slotless (c .args .cells .now) (omega (arith, ltb-false)) (c .from .ensures) (grind (arith, tells)) })
 
 pub returns-in-rest-after : need.returns-in-rest-after
-returns-in-rest-after c = catalogue-countless (c .args .cells .now) (omega (arith, ltb-false)) (c .from .ensures) (c .in-Continue-slots .ensures tt) (omega (arith, ltb-true))
+returns-in-rest-after c = record {
+  few = tt;
+  value = catalogue-countless (c .args .cells .now) (omega (arith, ltb-false)) (c .from .ensures) (c .in-Continue-slots .ensures tt) (omega (arith, ltb-true));
+}
 
 pub returns-then-cells-gt8192 : need.returns-then-cells-gt8192
-returns-then-cells-gt8192 c =
-    catalogue-large (c .args .cells .now) (omega (arith, ltb-false)) (c .from .ensures) (c .in-Continue-slots .ensures tt) (omega (arith, ltb-false)) (omega (arith, c .typed .cells 0))
-    (grind (arith, tells))
+returns-then-cells-gt8192 c = record {
+  few = tt;
+  value =
+      catalogue-large (c .args .cells .now) (omega (arith, ltb-false)) (c .from .ensures) (c .in-Continue-slots .ensures tt) (omega (arith, ltb-false)) (omega (arith, c .typed .cells 0))
+      (grind (arith, tells));
+}
 
 pub returns : need.returns
-returns c =
-    catalogue-whole (c .args .cells .now) (omega (arith, ltb-false)) (c .from .ensures) (c .in-Continue-slots .ensures tt) (omega (arith, ltb-false)) (omega (arith, c .typed .cells 0))
-    (grind (arith, tells))
+returns c = record {
+  few = (omega (arith, c .typed .cells 0), omega arith);
+  value =
+      catalogue-whole (c .args .cells .now) (omega (arith, ltb-false)) (c .from .ensures) (c .in-Continue-slots .ensures tt) (omega (arith, ltb-false)) (omega (arith, c .typed .cells 0))
+      (grind (arith, tells));
+}
