@@ -2,6 +2,7 @@ ghost use mathlib.Core.Path.{_≡_};
 ghost use mathlib.Core.List.{_++_};
 ghost use Prim.Native.Nat.{_≤_, _<_, _^_};
 ghost use lib.ListN.{length, drop};
+ghost use Rattle.std.specs.Vec.{made};
 ghost use Rattle.std.specs.shelf.Lists.{All};
 ghost use Rattle.fields.specs.Results.{mapped-ok};
 ghost use Rattle.catalogue.specs.Law.{Reads-what-is-written};
@@ -30,6 +31,7 @@ fn lay(cells: &mut [u16], numbers: &[u32])
 // Reads a catalogue's text to its cells, and answers how many they are.
 // A refusal leaves the cells as they were, and past the result none is written.
 pub fn read(text: &[u8], cells: &mut [u16]) -> Result<usize, Fault>
+    ensures fits { λ r. ⌜ made r (λ n. n ≤ length (now (cells .entry))) ⌝ }
     ensures value { λ r. ⌜ r ≡ mapped-ok length (read-into (length (now (cells .entry))) (now (text .entry))) ⌝ }
     ensures after { λ _. ⌜ now (cells .exit) ≡ laid (read-into (length (now (cells .entry))) (now (text .entry))) (now (cells .entry)) ⌝ }
     ensures law { λ _. ⌜ Reads-what-is-written ⌝ }
@@ -63,6 +65,7 @@ pub fn check(text: &[u8]) -> Result<usize, Fault>
 // Writes the text of lawful cells, and answers how long it is.
 // A refusal leaves the text as it was, and past the result no byte is written.
 pub fn write(cells: &[u16], text: &mut [u8]) -> Result<usize, Fault>
+    ensures fits { λ r. ⌜ made r (λ n. n ≤ length (now (text .entry))) ⌝ }
     ensures value { λ r. ⌜ r ≡ mapped-ok length (write-into (length (now (text .entry))) (now (cells .entry))) ⌝ }
     ensures after { λ _. ⌜ now (text .exit) ≡ laid (write-into (length (now (text .entry))) (now (cells .entry))) (now (text .entry)) ⌝ }
     ensures law { λ _. ⌜ Reads-what-is-written ⌝ }

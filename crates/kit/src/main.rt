@@ -2,6 +2,7 @@ ghost use Prim.Native.Nat.{_≤_};
 ghost use lib.ListN.{length};
 ghost use Rattle.std.specs.Vec.{made};
 use catalogue::read;
+use catalogue::write;
 use fields::fault::Fault;
 use fields::fault::Layer;
 use std::fs::File;
@@ -58,14 +59,29 @@ fn print_cells(rt: &LibcRuntime, cells: &[u16]) -> io::Result<()> {
     println!(rt, "")
 }
 
+// Writes the cells as a text again, and says whether that is the text that they were read from.
+fn print_written(rt: &LibcRuntime, cells: &[u16], text: &[u8]) -> io::Result<()> {
+    let mut again = [0u8; TEXT_ROOM];
+    match write(cells, &mut again) {
+        Ok(count) if &again[0..count] == text => println!(rt, "written again: the same {count} bytes"),
+        Ok(count) => println!(rt, "written again: {count} other bytes"),
+        Err(fault) => print_fault(rt, fault),
+    }
+}
+
 fn main(rt: LibcRuntime) -> io::Result<()> {
-    let mut text = [0u8; TEXT_ROOM];
+    let mut buffer = [0u8; TEXT_ROOM];
     let mut file = File::open(&rt, "catalogue.txt")?;
-    let long = fill(&mut file, &mut text)?;
+    let long = fill(&mut file, &mut buffer)?;
+    let text = &buffer[0..long];
     println!(rt, "catalogue.txt: {long} bytes")?;
     let mut cells = [0u16; CELL_ROOM];
-    match read(&text[0..long], &mut cells) {
-        Ok(count) => print_cells(&rt, &cells[0..count]),
+    match read(text, &mut cells) {
+        Ok(count) => {
+            let cells = &cells[0..count];
+            print_cells(&rt, cells)?;
+            print_written(&rt, cells, text)
+        }
         Err(fault) => print_fault(&rt, fault),
     }
 }

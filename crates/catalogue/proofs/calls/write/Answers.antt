@@ -12,12 +12,12 @@ use Rattle.catalogue.proofs.calls.write.Needs as need
 pub returns-in-rest : need.returns-in-rest
 returns-in-rest c =
     let e = unlawful-cells (c .args .cells .now) (length (c .args .text .now)) (written (replicate 65536 0)) (c .in-rest .ensures tt) in
-    record { value = sym (ap (mapped-ok length) e); after = sym (ap (λ r. laid r (c .args .text .now)) e); law = reads-what-is-written }
+    record { fits = tt; value = sym (ap (mapped-ok length) e); after = sym (ap (λ r. laid r (c .args .text .now)) e); law = reads-what-is-written }
 
 pub returns-then-count-text : need.returns-then-count-text
 returns-then-count-text c =
     let e = long-text (c .args .cells .now) (replicate 65536 0) (c .put-catalogue .last .out) (c .in-Some .count) (c .in-Some .ensures tt) (length (c .args .text .now)) (c .if-count-text .taken) in
-    record { value = sym (ap (mapped-ok length) e); after = sym (ap (λ r. laid r (c .args .text .now)) e); law = reads-what-is-written }
+    record { fits = tt; value = sym (ap (mapped-ok length) e); after = sym (ap (λ r. laid r (c .args .text .now)) e); law = reads-what-is-written }
 
 pub part-copy-from-slice-end-2 : need.part-copy-from-slice-end-2
 part-copy-from-slice-end-2 c =
@@ -27,4 +27,4 @@ part-copy-from-slice-end-2 c =
 pub returns : need.returns
 returns c =
     let e = text-laid (c .args .cells .now) (replicate 65536 0) (c .put-catalogue .last .out) (c .in-Some .count) (c .in-Some .ensures tt) (c .args .text .now) (c .copy-from-slice .last .self) (length-replicate {A = ℕ} 65536 0) (c .if-count-text .left) (c .copy-from-slice .ensures .after) in
-    record { value = e .0; after = e .1; law = reads-what-is-written }
+    record { fits = c .if-count-text .left; value = e .0; after = e .1; law = reads-what-is-written }
