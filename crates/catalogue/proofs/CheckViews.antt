@@ -3,7 +3,7 @@ use mathlib.Core.Path.{_≡_, refl}
 use mathlib.Core.Bool.{true, false, _&&_}
 use mathlib.Core.List.{List, [], _∷_, map}
 use mathlib.Core.Logic.{_⊎_}
-use Prim.Native.Nat.{ℕ, _+_, _<_}
+use Prim.Native.Nat.{ℕ, _<_}
 use native.Mathlib.Omega.{arith}
 use lib.Dec.{leb, ltb}
 use lib.ListN.{length, getD}
@@ -21,10 +21,6 @@ rising-after-none x (y ∷ ys) h = absurd (omega arith)
 pub rising-some : (xs : List ℕ) → 0 < length xs → rising xs ≡ rising-after (getD xs 0 0) (rest xs)
 rising-some [] h = absurd (omega arith)
 rising-some (x ∷ xs) h = rw (rest-is x xs)
-
-pub rising-none : (xs : List ℕ) → length xs < 1 → rising xs ≡ true
-rising-none [] h = refl
-rising-none (x ∷ xs) h = absurd (omega arith)
 
 module _ (f : ℕ → ℕ) where
   pub row-some : (of row : List ℕ) → 0 < length of → 0 < length row → row-lawful (map f of) row ≡ ((leb 1 (getD row 0 0) && leb (getD row 0 0) (f (getD of 0 0))) && row-lawful (map f (rest of)) (rest row))

@@ -19,7 +19,7 @@ use Rattle.fields.specs.declared.fault.FaultKind.the-variants.{WrongForm, OutOf
 use Rattle.fields.specs.Faults.{fault}
 use Rattle.fields.specs.Lines.{Position, position, keyed-line}
 use Rattle.fields.specs.Numbers.{numbers-up-to}
-use Rattle.fields.specs.Results.{then, mapped-ok, found-or}
+use Rattle.fields.specs.Results.{then, found-or}
 use Rattle.fields.specs.Texts.{keyed-text}
 use Rattle.fields.proofs.Chains.{then-case, mapped-ok-case, found-some, cond-ok}
 use Rattle.fields.proofs.LineTexts.{no-end, no-end-append, keyed-reads, keyed-writes}

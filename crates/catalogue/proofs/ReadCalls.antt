@@ -1,12 +1,10 @@
 -- What the calls that read a text answer, from what was read and kept.
-use mathlib.Core.Path.{_≡_, refl, sym, ap, subst, _∙_}
-use mathlib.Core.Bool.{true, false, _&&_}
+use mathlib.Core.Path.{_≡_, refl, sym, ap, _∙_}
 use mathlib.Core.List.{List, [], _∷_, _++_, append-nil, append-assoc}
 use mathlib.Core.Logic.{_⊎_}
 use Prim.Native.Nat.{ℕ, suc, _+_, _-_, _≤_, _<_}
 use native.Mathlib.Nat.{add-zero, zero-add}
 use native.Mathlib.Omega.{arith}
-use lib.Dec.{leb}
 use lib.ListN.{length, take, drop, set, length-set, length-take}
 use Rattle.std.specs.shelf.Lists.{All}
 use Rattle.std.specs.declared.result.Result.{Result}
@@ -16,11 +14,11 @@ use Rattle.std.proofs.shelf.Ways.{tells}
 use Rattle.fields.specs.declared.fault.Fault.{Fault}
 use Rattle.fields.specs.declared.fault.FaultKind.the-variants.{TooManyCells}
 use Rattle.fields.specs.Faults.{fault}
-use Rattle.fields.specs.Results.{then, mapped-ok}
+use Rattle.fields.specs.Results.{mapped-ok}
 use Rattle.catalogue.specs.Catalogues.{Catalogue}
 use Rattle.catalogue.specs.Cells.{cells-of}
 use Rattle.catalogue.specs.Outcomes.{read-into, laid}
-use Rattle.catalogue.specs.Reading.{asked, reading}
+use Rattle.catalogue.specs.Reading.{reading}
 use Rattle.catalogue.specs.Storing.{over, kept}
 use Rattle.catalogue.proofs.ReadingLaws.{reading-reads}
 use Rattle.catalogue.proofs.SmallCells.{Small, cells-small}

@@ -1,17 +1,18 @@
 -- How long the text of a lawful catalogue is, and how many cells a lawful rule has.
 use mathlib.Core.Path.{_≡_, refl}
-use mathlib.Core.Bool.{Bool, true, false, _&&_}
+use mathlib.Core.Bool.{Bool, true, false}
 use mathlib.Core.List.{List, [], _∷_, map}
-use Prim.Native.Nat.{ℕ, zero, suc, _+_, _*_, _^_, _≤_, _<_}
+use Prim.Native.Nat.{ℕ, _+_, _*_, _^_, _≤_, _<_}
 use native.Mathlib.Nat.{mul-le-mul}
 use native.Mathlib.Omega.{arith}
 use lib.Chars.{codes}
-use lib.Dec.{leb, ltb}
+use lib.Dec.{ltb}
 use lib.ListN.{length, length-append, length-map}
 use Rattle.std.specs.Written.{decimal}
 use Rattle.std.specs.shelf.Lists.{joined, All}
 use Rattle.std.proofs.shelf.Decimals.{length-decimal-le}
-use Rattle.std.proofs.shelf.Tests.{false≢true, and-parts, ltb-true}
+use Rattle.std.proofs.shelf.Elements.{all-weaker}
+use Rattle.std.proofs.shelf.Tests.{and-parts, ltb-true, ltb-true}
 use Rattle.std.proofs.shelf.Ways.{tells}
 use Rattle.fields.specs.Texts.{spaced-text, numbers-text}
 use Rattle.catalogue.specs.declared.model.Kind.{Kind}
@@ -23,6 +24,7 @@ use Rattle.catalogue.specs.Headed.{head-text}
 use Rattle.catalogue.specs.Lawful.{all, slot-lawful, kind-lawful, offered, row-lawful, rule-lawful, lawful}
 use Rattle.catalogue.specs.Writing.{line, number-text, standing-word, kind-words, list-text, slot-text, slots-text, rows-text, rule-text, rules-text, text-of}
 use Rattle.catalogue.proofs.CellLaws.{row-wide, rows-length}
+use Rattle.catalogue.proofs.LawfulParts.{all-means, limits-few, row-few}
 use Rattle.catalogue.proofs.TextPieces.{head-then-rules}
 
 -- lines
@@ -72,27 +74,13 @@ slots-short (s ∷ ss) rest h =
     let b = and-parts (slot-lawful s) (all slot-lawful ss) h in
     omega (arith, slot-short s (b .0), slots-short ss rest (b .1), line-length (slot-text s) (slots-text ss rest))
 
-offered-few : (slots : List Slot) (n : ℕ) → all slot-lawful slots ≡ true → offered slots n ≤ 15
-offered-few [] n h = omega arith
-offered-few (s ∷ ss) zero h = grind (arith, tells)
-offered-few (s ∷ ss) (suc n) h = offered-few ss n (and-parts (slot-lawful s) (all slot-lawful ss) h .1)
-
 used-small : (used : ℕ) → used ≤ 24 → (ns : List ℕ) → all (λ n. ltb n used) ns ≡ true → Small ns
-used-small used few [] h = tt
-used-small used few (n ∷ ns) h =
-    let b = and-parts (ltb n used) (all (λ n. ltb n used) ns) h in
-    (grind (arith, tells), used-small used few ns (b .1))
+used-small used few ns h = all-means (λ n. ltb n used) (λ n below. omega (arith, ltb-true n used below)) ns h
 
 -- rules over the same lawful slots
 module _ (slots : List Slot) (few : length slots ≤ 24) (offer : all slot-lawful slots ≡ true) where
   parts-small : (own row : List ℕ) → row-lawful (map (offered slots) own) row ≡ true → Small row
-  parts-small [] [] h = tt
-  parts-small [] (v ∷ row) h = absurd (false≢true h)
-  parts-small (s ∷ own) [] h = absurd (false≢true h)
-  parts-small (s ∷ own) (v ∷ row) h =
-      let b = and-parts (leb 1 v && leb v (offered slots s)) (row-lawful (map (offered slots) own) row) h in
-      let most = offered-few slots s offer in
-      (grind (arith, tells), parts-small own row (b .1))
+  parts-small own row h = all-weaker (λ n. n ≤ 15) (λ n. n < 100) (λ n most. omega arith) row (row-few (map (offered slots) own) row (limits-few slots offer own) h .0)
 
   -- 4 bytes for each row and 3 for each of its parts, of which it has at least one
   rows-short : (own : List ℕ) → 1 ≤ length own → (rows : List (List ℕ)) (rest : List ℕ)

@@ -4,6 +4,7 @@ use mathlib.Core.Bool.{Bool, true, false}
 use mathlib.Core.List.{List, [], _∷_, map}
 use Prim.Native.Nat.{ℕ, _<_, _≤_, _^_}
 use native.Mathlib.Omega.{arith}
+use lib.Dec.{ltb}
 use lib.ListN.{length}
 use Rattle.std.specs.shelf.Lists.{All, joined}
 use Rattle.std.proofs.shelf.Elements.{all-append, all-map, all-weaker}
@@ -47,7 +48,7 @@ rule-small slots few good r h =
         omega (arith, target-few (length slots) few (r .kind) (parts .kind)),
         (
           omega (arith, of .few),
-          all-append Small (r .slots) _ (all-means _ (λ s b. omega (arith, ltb-true s (length slots) b)) (r .slots) (of .below)) (
+          all-append Small (r .slots) _ (all-means (λ s. ltb s (length slots)) (λ s below. omega (arith, ltb-true s (length slots) below)) (r .slots) (of .below)) (
             omega arith,
             all-joined Small (row-lawful (map (offered slots) (r .slots))) (λ row. row)
                 (λ row b. all-weaker (λ n. n ≤ 15) Small (λ n l. omega arith) row (row-few (map (offered slots) (r .slots)) row (limits-few slots good (r .slots)) b .0))

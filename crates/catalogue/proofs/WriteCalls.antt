@@ -1,11 +1,11 @@
 -- What the call that writes cells answers, from what was written.
-use mathlib.Core.Path.{_≡_, refl, sym, ap, _∙_}
-use mathlib.Core.List.{List, [], _++_}
-use Prim.Native.Nat.{ℕ, _+_, _-_, _≤_, _<_}
+use mathlib.Core.Path.{_≡_, refl, ap}
+use mathlib.Core.List.{List, _++_}
+use Prim.Native.Nat.{ℕ, _-_, _≤_, _<_}
 use native.Mathlib.Nat.{zero-add}
 use native.Mathlib.Omega.{arith}
 use borrow.Rule.Slice.PartMut.{postOf}
-use lib.ListN.{length, take, drop}
+use lib.ListN.{length, take}
 use Rattle.std.specs.Options.{mapped}
 use Rattle.std.specs.declared.option.Option.{Option}
 use Rattle.std.specs.declared.option.Option.the-variants.{Some, None}
@@ -52,7 +52,7 @@ module _ (cs out out′ : List ℕ) (n : ℕ) (e : Some (n, out′) ≡ mapped (
   long-text room h = written-case (λ c is count bytes. rw (is, ← count, lt-leb n room h))
 
   pub text-laid : (old new : List ℕ) → length out ≡ 65536 → n ≤ length old → new ≡ take (n - 0) out′
-    → (Ok n ≡ mapped-ok length (write-into (length old) cs)) × (new ++ postOf 0 (n - 0) old ≡ laid (write-into (length old) cs) old)
+      → (Ok n ≡ mapped-ok length (write-into (length old) cs)) × (new ++ postOf 0 (n - 0) old ≡ laid (write-into (length old) cs) old)
   text-laid old new long fits copied =
       written-case (λ c is count bytes.
       let same : n - 0 ≡ n = omega arith in

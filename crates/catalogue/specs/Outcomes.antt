@@ -1,5 +1,5 @@
 -- What each call answers, and what a lent buffer holds afterwards.
-use mathlib.Core.Bool.{Bool, true, false, _&&_}
+use mathlib.Core.Bool.{Bool, _&&_}
 use mathlib.Core.List.{List, _++_}
 use Prim.Native.Nat.{ℕ}
 use lib.Dec.{leb}
@@ -11,7 +11,6 @@ use Rattle.fields.specs.declared.fault.Fault.{Fault}
 use Rattle.fields.specs.declared.fault.FaultKind.the-variants.{TooManyCells, UnlawfulCells, TextDoesNotFit}
 use Rattle.fields.specs.Faults.{fault}
 use Rattle.fields.specs.Results.{then, found-or}
-use Rattle.catalogue.specs.Catalogues.{Catalogue}
 use Rattle.catalogue.specs.Cells.{cells-of, catalogue-of}
 use Rattle.catalogue.specs.Reading.{asked, reading}
 use Rattle.catalogue.specs.Writing.{text-of}

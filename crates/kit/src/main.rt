@@ -63,7 +63,10 @@ fn print_cells(rt: &LibcRuntime, cells: &[u16]) -> io::Result<()> {
 fn print_written(rt: &LibcRuntime, cells: &[u16], text: &[u8]) -> io::Result<()> {
     let mut again = [0u8; TEXT_ROOM];
     match write(cells, &mut again) {
-        Ok(count) if &again[0..count] == text => println!(rt, "written again: the same {count} bytes"),
+        Ok(count) if &again[0..count] == text => println!(
+            rt,
+            "written again: the same {count} bytes"
+        ),
         Ok(count) => println!(rt, "written again: {count} other bytes"),
         Err(fault) => print_fault(rt, fault),
     }

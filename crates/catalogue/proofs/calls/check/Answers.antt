@@ -1,7 +1,6 @@
 use mathlib.Core.Path.{sym, ap}
 use mathlib.Core.List.{[]}
 use mathlib.Core.Logic.{inl}
-use native.Mathlib.Omega.{arith}
 use lib.ListN.{length}
 use Rattle.std.proofs.shelf.Results.{err-from-errBy}
 use Rattle.fields.specs.Results.{mapped-ok}

@@ -2,7 +2,7 @@ use mathlib.Core.Path.{_≡_, sym, ap, _∙_}
 use mathlib.Core.List.{_++_, _∷_, []}
 use Prim.Native.Nat.{_<_, _^_, _+_}
 use native.Mathlib.Omega.{arith}
-use lib.ListN.{length, take, drop, getD}
+use lib.ListN.{length, drop, getD}
 use Rattle.std.proofs.shelf.Elements.{all-getD}
 use Rattle.std.proofs.shelf.Lists.{take-more, take-more-set, take-all, take-append-drop, drop-set-lt, drop-drop}
 use Rattle.catalogue.proofs.calls.lay.Needs as need

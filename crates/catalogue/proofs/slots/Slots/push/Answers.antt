@@ -1,5 +1,5 @@
 use native.Mathlib.Omega.{arith}
-use Rattle.std.proofs.shelf.Lists.{take-more-set, length-take-le}
+use Rattle.std.proofs.shelf.Lists.{take-more-set}
 use Rattle.catalogue.proofs.slots.Slots.push.Needs as need
 
 pub returns : need.returns
