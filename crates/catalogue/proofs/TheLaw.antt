@@ -71,6 +71,6 @@ pub reads-what-is-written : Reads-what-is-written
 reads-what-is-written = record {
   reads = λ t cs room h. belongs-written (read-belongs t cs room h);
   writes = λ t cs room h. belongs-read (write-belongs t cs room h);
-  means = λ cs h. let b = lawful-belongs cs h in (b .0, belongs-read (b .1) .1);
+  means = λ cs. (λ h. let b = lawful-belongs cs h in (b .0, belongs-read (b .1) .1), λ t room h. belongs-written (read-belongs t cs room h) .0);
   once = λ t u cs m n h k. belongs-once (read-belongs t cs m h) (read-belongs u cs n k);
 }

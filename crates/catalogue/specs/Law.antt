@@ -14,6 +14,6 @@ pub record Reads-what-is-written : Type 0 where
   -- the text of lawful cells has at most 65,536 bytes, and reads to them wherever as many cells are lent
   pub writes : (t cs : List ℕ) (room : ℕ) → write-into room cs ≡ Ok t → (length t ≤ 65536) × (read-into (length cs) t ≡ Ok cs)
   -- cells are lawful exactly if some text reads to them
-  pub means : (cs : List ℕ) → lawful-cells cs ≡ true → (t : List ℕ) × (read-into (length cs) t ≡ Ok cs)
+  pub means : (cs : List ℕ) → (lawful-cells cs ≡ true → (t : List ℕ) × (read-into (length cs) t ≡ Ok cs)) × ((t : List ℕ) (room : ℕ) → read-into room t ≡ Ok cs → lawful-cells cs ≡ true)
   -- two texts that read to the same cells are one text
   pub once : (t u cs : List ℕ) (m n : ℕ) → read-into m t ≡ Ok cs → read-into n u ≡ Ok cs → t ≡ u
