@@ -4,7 +4,7 @@ use std::error::AnyError;
 
 // A text to read, and how many cells are lent for it.
 #[derive(Drop)]
-pub struct Case<'a> {
+pub(crate) struct Case<'a> {
     pub name: &'a str,
     pub room: usize,
     pub text: Vec<u8>,
@@ -12,7 +12,7 @@ pub struct Case<'a> {
 
 impl<'a> Case<'a> {
     // A line has the name, the room and the escaped text, with a space between two.
-    pub fn parse(heap: Global, line: &'a str) -> Result<Case<'a>, AnyError> {
+    pub(crate) fn parse(heap: Global, line: &'a str) -> Result<Case<'a>, AnyError> {
         let Some((name, rest)) = line.split_once(' ') else {
             return Err("a case has no room".into());
         };

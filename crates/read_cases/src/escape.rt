@@ -22,7 +22,7 @@ struct Decoder {
 }
 
 // The bytes that an escaped text stands for.
-pub fn unescape(heap: Global, text: &str) -> Result<Vec<u8>, AnyError> {
+pub(crate) fn unescape(heap: Global, text: &str) -> Result<Vec<u8>, AnyError> {
     let mut decoder = Decoder::new(heap);
     for byte in text.as_bytes() {
         decoder.feed(*byte)?;

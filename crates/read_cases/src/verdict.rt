@@ -15,7 +15,7 @@ const MOST_SHOWN: usize = 60;
 
 // What came of reading a case's text.
 #[derive(Drop)]
-pub struct Verdict {
+pub(crate) struct Verdict {
     read: Result<usize, Fault>,
     checked: Result<usize, Fault>,
     // The cells of the result.
@@ -25,7 +25,7 @@ pub struct Verdict {
 }
 
 impl Verdict {
-    pub fn of(heap: Global, case: &Case<'_>) -> Result<Verdict, AllocError> {
+    pub(crate) fn of(heap: Global, case: &Case<'_>) -> Result<Verdict, AllocError> {
         let mut lent = vec![in heap; UNTOUCHED; case.room]?;
         let read = catalogue::read(case.text.as_slice(), lent.as_mut_slice());
         let count = match read {

@@ -3,7 +3,7 @@ use std::error::AnyError;
 
 // Cells to write, and how many bytes are lent for their text.
 #[derive(Drop)]
-pub struct Case<'a> {
+pub(crate) struct Case<'a> {
     pub name: &'a str,
     pub room: usize,
     pub cells: Vec<u16>,
@@ -11,7 +11,7 @@ pub struct Case<'a> {
 
 impl<'a> Case<'a> {
     // A line has the name, the room and the cells, with a space between two.
-    pub fn parse(heap: Global, line: &'a str) -> Result<Case<'a>, AnyError> {
+    pub(crate) fn parse(heap: Global, line: &'a str) -> Result<Case<'a>, AnyError> {
         let Some((name, rest)) = line.split_once(' ') else {
             return Err("a case has no room".into());
         };

@@ -2,7 +2,7 @@ use std::fmt;
 
 // Bytes shown on one line: `\n` is a line end, `\\` a backslash, and `\xHH` any other byte that is not printable.
 #[derive(Clone, Copy)]
-pub struct Escaped<'a>(pub &'a [u8]);
+pub(crate) struct Escaped<'a>(pub &'a [u8]);
 
 fn show_byte<W: fmt::Write>(byte: u8, f: &mut fmt::Formatter<W>) -> fmt::Result {
     match byte {

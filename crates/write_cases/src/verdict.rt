@@ -16,7 +16,7 @@ const MOST_SHOWN: usize = 240;
 
 // What came of writing a case's cells.
 #[derive(Drop)]
-pub struct Verdict {
+pub(crate) struct Verdict {
     lawful: bool,
     written: Result<usize, Fault>,
     // The text of the result.
@@ -26,7 +26,7 @@ pub struct Verdict {
 }
 
 impl Verdict {
-    pub fn of(heap: Global, case: &Case<'_>) -> Result<Verdict, AllocError> {
+    pub(crate) fn of(heap: Global, case: &Case<'_>) -> Result<Verdict, AllocError> {
         let mut lent = vec![in heap; UNTOUCHED; case.room]?;
         let written = catalogue::write(case.cells.as_slice(), lent.as_mut_slice());
         let count = match written {
