@@ -1,0 +1,2 @@
+pub mod FormCells
+pub mod Places

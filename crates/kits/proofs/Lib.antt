@@ -1,0 +1,5 @@
+pub mod BoxLaws
+pub mod HalfLaws
+pub mod LabelLaws
+pub mod OrderLaws
+pub mod VolumeLaws
