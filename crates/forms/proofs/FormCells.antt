@@ -1,10 +1,9 @@
 -- The slots of lawful cells.
 use mathlib.Core.Path.{_≡_, refl, sym, subst, _∙_}
 use mathlib.Core.Bool.{Bool, true, false}
-use mathlib.Core.List.{List, [], _∷_, _++_, map}
-use Prim.Native.Nat.{ℕ, _+_, _%_, _≤_, _<_}
+use mathlib.Core.List.{List, [], _∷_, map}
+use Prim.Native.Nat.{ℕ, _+_, _%_, _≤_}
 use native.Mathlib.Omega.{arith}
-use lib.Dec.{leb}
 use lib.ListN.{length, getD, take, drop, length-append, length-map}
 use Rattle.std.specs.Options.{isSome}
 use Rattle.std.specs.shelf.Lists.{joined}
@@ -20,7 +19,7 @@ use Rattle.catalogue.specs.Outcomes.{lawful-cells}
 use Rattle.catalogue.proofs.CellLaws.{cells-say}
 use Rattle.catalogue.proofs.LawfulParts.{lawful-parts, within}
 use Rattle.forms.specs.Forms.{form-lawful}
-use Rattle.forms.specs.Said.{slot-said, slots-or}
+use Rattle.forms.specs.Said.{slot-said}
 
 -- a slot comes back from its cell
 slot-back : (s : Slot) → slot-lawful s ≡ true → slot-said (slot-cell s) ≡ s
