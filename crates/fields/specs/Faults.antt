@@ -6,7 +6,6 @@ use Rattle.fields.specs.declared.fault.FaultKind.{FaultKind}
 use Rattle.fields.specs.declared.fault.FaultKind.TheVariants.{TextTooLong, LineMissing, LineTooLong, WrongKey, WrongForm, OutOfRange, SlotsNotRising, TargetAmongSlots, NoStandardSlot, TextAfterEnd, TooManyCells, UnlawfulCells, TextDoesNotFit, WrongOrder, NoRoomForAnswers, TooManyOrders, UnlawfulLoads, Refused}
 use Rattle.fields.specs.declared.fault.Layer.{Layer}
 use Rattle.fields.specs.declared.fault.Layer.TheVariants.{Line, Field, Catalogue, Order}
-use Rattle.fields.specs.declared.fault.Source as source
 use Rattle.fields.specs.declared.fault.Source.{Source}
 
 -- the number of each fault

@@ -7,7 +7,7 @@ use Rattle.fields.specs.declared.fault.Source.{Source}
 use Rattle.fields.specs.declared.fault.Source.TheVariants.{Catalogue, Orders}
 use Rattle.fields.specs.Faults.{source_of}
 use Rattle.fields.specs.Results.{and_then}
-use Rattle.fields.specs.TextLines.{Line, lines, line_at, line_start}
+use Rattle.fields.specs.TextLines.{lines, line_at, line_start}
 
 -- the catalogue's or the orders'
 abbrev pub of_source : {A : Type 0} → Source → A → A → A

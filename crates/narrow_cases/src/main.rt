@@ -1,3 +1,5 @@
+#![tactic(auto)]
+
 // Takes each book of standard input, narrows the boxes that follow it, and prints a line on what came of each.
 mod case;
 mod outcome;

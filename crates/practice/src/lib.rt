@@ -1,3 +1,5 @@
+#![tactic(auto)]
+
 ghost use Rattle.std.specs.Prelude.{◌≡◌};
 ghost use Rattle.practice.specs.Practice.{practice_cells, PracticeFacts};
 ghost use Rattle.practice.specs.Run.{PracticeRun};

@@ -1,3 +1,5 @@
+#![tactic(auto)]
+
 // Reads each case of standard input as a catalogue, and prints a line on what came of it.
 mod case;
 mod checksum;

@@ -1,2 +1,4 @@
+#![tactic(auto)]
+
 mod narrowing;
 pub mod table_book;

@@ -1,3 +1,5 @@
+#![tactic(auto)]
+
 pub mod refusal;
 mod rule_sets;
 pub mod search;

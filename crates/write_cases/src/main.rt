@@ -1,3 +1,5 @@
+#![tactic(auto)]
+
 // Writes each case of standard input as a catalogue's text, and prints a line on what came of it.
 mod case;
 mod checksum;

@@ -3,8 +3,8 @@ use Rattle.std.proofs.ByRecursion.{All-get_or}
 use Rattle.std.proofs.lemmas.List.{take_more, take_more_set, take_all, take-append-drop, drop-set-lt, drop-drop}
 use Rattle.catalogue.proofs.calls.lay.Goals as goal
 
-pub overflow-cast-cells : goal.overflow-cast-cells
-overflow-cast-cells c = omega (arith, All-get_or (λ n. n < 2 ^ 16) c.args.numbers.now c.loop-i.i 0 c.loop-i-test.true c.requires.1)
+pub overflow_cast-cells : goal.overflow_cast-cells
+overflow_cast-cells c = omega (arith, All-get_or (λ n. n < 2 ^ 16) c.args.numbers.now c.loop-i.i 0 c.loop-i-test.true c.requires.1)
 
 pub loop-i-preserved : goal.loop-i-preserved
 loop-i-preserved c =

@@ -9,8 +9,8 @@ returns-in-empty-empty t c = grind (arith, nat_tests, row_none)
 pub returns-then-part-parts : goal.returns-then-part-parts
 returns-then-part-parts t c = grind (arith, nat_tests, row_some)
 
-pub returns-in-default : goal.returns-in-default
-returns-in-default t c = grind (arith, nat_tests, row_uneven)
+pub returns-in_default : goal.returns-in_default
+returns-in_default t c = grind (arith, nat_tests, row_uneven)
 
-pub returns-in-default·2 : goal.returns-in-default·2
-returns-in-default·2 t c = grind (arith, nat_tests, row_uneven)
+pub returns-in_default-2 : goal.returns-in_default-2
+returns-in_default-2 t c = grind (arith, nat_tests, row_uneven)

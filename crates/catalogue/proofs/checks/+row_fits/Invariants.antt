@@ -1,5 +1,5 @@
 use Rattle.std.proofs.Common.{length}
 use Rattle.catalogue.proofs.checks.+row_fits.Given as goal
 
-abbrev pub decreases-row-fits : goal.decreases-row-fits
-decreases-row-fits l = length l.row.now
+abbrev pub decreases-row_fits : goal.decreases-row_fits
+decreases-row_fits l = length l.row.now

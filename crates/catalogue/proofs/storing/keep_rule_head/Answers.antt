@@ -12,15 +12,15 @@ returns c =
       after =
           rw (
             c.keep.ensures.after,
-            c.keep-all-end.ensures.after,
-            c.keep-all-end.ensures.value,
+            c.keep_all-end.ensures.after,
+            c.keep_all-end.ensures.value,
             c.keep-end-3.ensures.after,
             c.keep-end-3.ensures.value,
             c.keep-end-2.ensures.after,
             c.keep-end-2.ensures.value,
             c.keep-end.ensures.after,
             c.keep-end.ensures.value,
-            c.kind-cells-code.ensures.0,
-            c.kind-cells-code.ensures.1,
+            c.kind_cells-code.ensures.0,
+            c.kind_cells-code.ensures.1,
           ) (sym e);
     }

@@ -5,13 +5,13 @@ use Rattle.catalogue.proofs.Puts.{put_first}
 use Rattle.catalogue.proofs.TextPieces.{rows_next, row_cells}
 use Rattle.catalogue.proofs.writing.put_rows.Goals as goal
 
-pub split-at-requires : goal.split-at-requires
-split-at-requires c = omega (arith, row_cells (c.args.count - c.loop.counter) c.args.wide (omega arith))
+pub split_at-requires : goal.split_at-requires
+split_at-requires c = omega (arith, row_cells (c.args.count - c.loop.counter) c.args.wide (omega arith))
 
-pub put-list-end-requires : goal.put-list-end-requires
-put-list-end-requires c =
+pub put_list-end-requires : goal.put_list-end-requires
+put_list-end-requires c =
     let next = rows_next (c.args.count - c.loop.counter) c.args.wide c.loop.left.now (omega arith) in
-    rw c.split-at.ensures.front (omega arith)
+    rw c.split_at.ensures.front (omega arith)
 
 pub loop-preserved : goal.loop-preserved
 loop-preserved c =
@@ -20,8 +20,8 @@ loop-preserved c =
     let cells = row_cells n c.args.wide (omega arith) in
     rw m (
       omega arith,
-      rw c.split-at.ensures.back
+      rw c.split_at.ensures.back
           (put_first _ _ (line (list_text (codes "row") (take c.args.wide c.loop.left.now)) []) (rows_text (rows_of (n - 1) c.args.wide (drop c.args.wide c.loop.left.now)) [])
-          (rw c.split-at.ensures.front at c.put-list-end.ensures)
+          (rw c.split_at.ensures.front at c.put_list-end.ensures)
           _ (rows_next n c.args.wide c.loop.left.now (omega arith)) c.loop.invariant.1),
     )

@@ -4,18 +4,18 @@ use Rattle.catalogue.proofs.Puts.{put_then, put_pieces}
 use Rattle.catalogue.proofs.TextPieces.{slot_pieces}
 use Rattle.catalogue.proofs.writing.put_slot.Goals as goal
 
-pub put-number-end-requires : goal.put-number-end-requires
-put-number-end-requires c = let p = slot_pieces c.args.slot in rw c.from.ensures (omega arith)
+pub put_number-end-requires : goal.put_number-end-requires
+put_number-end-requires c = let p = slot_pieces c.args.slot in rw c.from.ensures (omega arith)
 
-pub keep-all-requires : goal.keep-all-requires
-keep-all-requires c =
+pub keep_all-requires : goal.keep_all-requires
+keep_all-requires c =
     let p = slot_pieces c.args.slot in
-    let digits = rw c.from.ensures at c.put-number-end.ensures.value in
-    rw c.standing-end.ensures (omega arith)
+    let digits = rw c.from.ensures at c.put_number-end.ensures.value in
+    rw c.standing_end.ensures (omega arith)
 
 pub returns : goal.returns
 returns c =
     let digits = decimal c.args.slot.parts in
     put_pieces _ _ (codes "slot=" ++ digits) (32 ∷ line (standing_word c.args.slot.standard) [])
-    (put_then _ _ (codes "slot=") digits c.keep-all-end.ensures (rw c.from.ensures at c.put-number-end.ensures))
-    _ (slot_pieces c.args.slot) (rw c.standing-end.ensures at c.keep-all.ensures)
+    (put_then _ _ (codes "slot=") digits c.keep_all-end.ensures (rw c.from.ensures at c.put_number-end.ensures))
+    _ (slot_pieces c.args.slot) (rw c.standing_end.ensures at c.keep_all.ensures)

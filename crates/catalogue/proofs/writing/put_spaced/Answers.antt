@@ -5,8 +5,8 @@ use Rattle.catalogue.proofs.Puts.{put_then, put_first, put_done}
 use Rattle.catalogue.proofs.TextPieces.{spaced_next}
 use Rattle.catalogue.proofs.writing.put_spaced.Goals as goal
 
-pub put-number-end-requires : goal.put-number-end-requires
-put-number-end-requires c =
+pub put_number-end-requires : goal.put_number-end-requires
+put_number-end-requires c =
     let next = spaced_next c.args.numbers.now c.loop-n.n-index c.loop-n-test.true in
     rw c.from.ensures (omega arith)
 
@@ -14,7 +14,7 @@ pub loop-n-preserved : goal.loop-n-preserved
 loop-n-preserved c =
     let digits = decimal (get_or c.args.numbers.now c.loop-n.n-index 0) in
     put_first _ _ (32 ∷ digits) (spaced_text (drop (c.loop-n.n-index + 1) c.args.numbers.now))
-    (put_then _ _ (32 ∷ []) digits c.keep-end.ensures (rw c.from.ensures at c.put-number-end.ensures))
+    (put_then _ _ (32 ∷ []) digits c.keep-end.ensures (rw c.from.ensures at c.put_number-end.ensures))
     _ (spaced_next c.args.numbers.now c.loop-n.n-index c.loop-n-test.true) c.loop-n.invariant
 
 pub returns : goal.returns

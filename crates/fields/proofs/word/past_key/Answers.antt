@@ -4,4 +4,4 @@ use Rattle.fields.proofs.Views.{after_equals_some}
 use Rattle.fields.proofs.word.past_key.Goals as goal
 
 pub returns-in-61 : goal.returns-in-61
-returns-in-61 c = grind (arith, nat_tests, c.in-ok-past-word.ensures, after_equals_some)
+returns-in-61 c = grind (arith, nat_tests, c.in_ok-past_word.ensures, after_equals_some)

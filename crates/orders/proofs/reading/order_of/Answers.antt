@@ -6,9 +6,9 @@ pub returns-in-Some : goal.returns-in-Some
 unfolding order_of
 returns-in-Some c = search rules
 
-pub returns-in-Some-fix-order : goal.returns-in-Some-fix-order
+pub returns-in-Some-fix_order : goal.returns-in-Some-fix_order
 unfolding order_of
-returns-in-Some-fix-order c = search rules
+returns-in-Some-fix_order c = search rules
 
 pub returns : goal.returns
 unfolding order_of

@@ -3,8 +3,8 @@ use Rattle.catalogue.specs.Listed.{listed}
 use Rattle.catalogue.proofs.CellViews.{rules_failed, some_passed}
 use Rattle.catalogue.proofs.cells.taken.rules_fit.Goals as goal
 
-pub returns-in-default : goal.returns-in-default
-returns-in-default c = grind (arith, rules_failed)
+pub returns-in_default : goal.returns-in_default
+returns-in_default c = grind (arith, rules_failed)
 
 pub loop-preserved : goal.loop-preserved
 loop-preserved c =

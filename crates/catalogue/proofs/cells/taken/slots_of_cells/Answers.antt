@@ -5,14 +5,14 @@ use Rattle.catalogue.specs.Listed.{listed}
 use Rattle.catalogue.proofs.CellViews.{slots_failed, slots_passed}
 use Rattle.catalogue.proofs.cells.taken.slots_of_cells.Goals as goal
 
-pub returns-in-err-slot-of-cell : goal.returns-in-err-slot-of-cell
-returns-in-err-slot-of-cell c =
-    let none = slots_failed c.args.cells.now c.loop-cell.cell-index (listed c.loop-cell.slots) c.loop-cell-test.true c.loop-cell.invariant.1 c.in-err-slot-of-cell.ensures in
+pub returns-in_err-slot_of_cell : goal.returns-in_err-slot_of_cell
+returns-in_err-slot_of_cell c =
+    let none = slots_failed c.args.cells.now c.loop-cell.cell-index (listed c.loop-cell.slots) c.loop-cell-test.true c.loop-cell.invariant.1 c.in_err-slot_of_cell.ensures in
     grind (arith, nat_tests)
 
 pub loop-cell-preserved : goal.loop-cell-preserved
 loop-cell-preserved c =
     rw c.push.ensures (
-      length_push (listed c.loop-cell.slots) c.in-ok-slot-of-cell.field-0 ∙ ap (λ n. n + 1) c.loop-cell.invariant.0,
-      slots_passed c.args.cells.now c.loop-cell.cell-index (listed c.loop-cell.slots) c.loop-cell-test.true c.loop-cell.invariant.1 c.in-ok-slot-of-cell.ensures,
+      length_push (listed c.loop-cell.slots) c.in_ok-slot_of_cell.field-0 ∙ ap (λ n. n + 1) c.loop-cell.invariant.0,
+      slots_passed c.args.cells.now c.loop-cell.cell-index (listed c.loop-cell.slots) c.loop-cell-test.true c.loop-cell.invariant.1 c.in_ok-slot_of_cell.ensures,
     )

@@ -3,15 +3,15 @@ use Rattle.std.proofs.lemmas.Bool.Decides.{nat_tests}
 use Rattle.catalogue.proofs.WholeCells.{catalogue_slotless, catalogue_countless, catalogue_large, catalogue_whole, rules_begin}
 use Rattle.catalogue.proofs.cells.taken.take_catalogue.Goals as goal
 
-pub returns-in-err-slots : goal.returns-in-err-slots
-returns-in-err-slots c = rw c.from-residual.ensures (record { few = tt; within = tt; rules = tt; value = catalogue_slotless c.args.cells.now (omega (arith, ltb-false)) c.from.ensures (grind (arith, nat_tests)) })
+pub returns-in_err-slots : goal.returns-in_err-slots
+returns-in_err-slots c = rw c.from_residual.ensures (record { few = tt; within = tt; rules = tt; value = catalogue_slotless c.args.cells.now (omega (arith, ltb-false)) c.from.ensures (grind (arith, nat_tests)) })
 
-pub returns-in-default-after : goal.returns-in-default-after
-returns-in-default-after c = record {
+pub returns-in_default-after : goal.returns-in_default-after
+returns-in_default-after c = record {
   few = tt;
   within = tt;
   rules = tt;
-  value = catalogue_countless c.args.cells.now (omega (arith, ltb-false)) c.from.ensures c.in-ok-slots.ensures (omega (arith, ltb-true));
+  value = catalogue_countless c.args.cells.now (omega (arith, ltb-false)) c.from.ensures c.in_ok-slots.ensures (omega (arith, ltb-true));
 }
 
 pub returns-then-cells-gt8192 : goal.returns-then-cells-gt8192
@@ -20,16 +20,16 @@ returns-then-cells-gt8192 c = record {
   within = tt;
   rules = tt;
   value =
-      catalogue_large c.args.cells.now (omega (arith, ltb-false)) c.from.ensures c.in-ok-slots.ensures (omega (arith, ltb-false)) (omega (arith, c.type-inv.cells 0))
+      catalogue_large c.args.cells.now (omega (arith, ltb-false)) c.from.ensures c.in_ok-slots.ensures (omega (arith, ltb-false)) (omega (arith, c.type_inv.cells 0))
       (grind (arith, nat_tests));
 }
 
 pub returns : goal.returns
 returns c = record {
-  few = (omega (arith, c.type-inv.cells 0), omega arith);
+  few = (omega (arith, c.type_inv.cells 0), omega arith);
   within = omega arith;
-  rules = rules_begin c.args.cells.now _ c.in-ok-slots.ensures;
+  rules = rules_begin c.args.cells.now _ c.in_ok-slots.ensures;
   value =
-      catalogue_whole c.args.cells.now (omega (arith, ltb-false)) c.from.ensures c.in-ok-slots.ensures (omega (arith, ltb-false)) (omega (arith, c.type-inv.cells 0))
+      catalogue_whole c.args.cells.now (omega (arith, ltb-false)) c.from.ensures c.in_ok-slots.ensures (omega (arith, ltb-false)) (omega (arith, c.type_inv.cells 0))
       (grind (arith, nat_tests));
 }

@@ -14,12 +14,12 @@ use Rattle.forms.proofs.form.Form.opening.Goals as goal
 
 pub label-requires : goal.label-requires
 label-requires c =
-    rw c.as-slice-choice-items.ensures.value
-    (lawful_at c.args.choices.now.list c.loop-i.i Free (omega (arith, ap length c.as-slice-choice-items.ensures.value)) c.args.choices.now.lawful)
+    rw c.as_slice-choice-items.ensures.value
+    (lawful_at c.args.choices.now.list c.loop-i.i Free (omega (arith, ap length c.as_slice-choice-items.ensures.value)) c.args.choices.now.lawful)
 
 pub loop-i-preserved : goal.loop-i-preserved
 loop-i-preserved c =
-    let e = c.as-slice-choice-items.ensures.value in
+    let e = c.as_slice-choice-items.ensures.value in
     let value : c.label.result ≡ slot_label (used_slots c.args.self.now) c.loop-i.i (get_or c.args.choices.now.list c.loop-i.i Free) =
     c.label.ensures ∙ ap (λ (cs : List Choice). slot_label (used_slots c.args.self.now) c.loop-i.i (get_or cs c.loop-i.i Free)) e in (
       simp length-set c.loop-i.invariant.0,
@@ -35,13 +35,13 @@ boxed slots cs labels i o l h g t e =
 
 pub unreachable-requires : goal.unreachable-requires
 unreachable-requires c =
-    let n = ap length c.as-slice-choice-items.ensures.value in
+    let n = ap length c.as_slice-choice-items.ensures.value in
     let e = boxed (used_slots c.args.self.now) c.args.choices.now.list c.loop-i.labels c.loop-i.i None c.args.self.now.lawful (omega arith) (omega (arith, c.loop-i.invariant.0)) c.loop-i.invariant.1 c.in-None.ensures in
     let z : ◌≡◌ {A = ℕ} 0 1 = cc in
     omega arith
 
 pub returns : goal.returns
 returns c =
-    let n = ap length c.as-slice-choice-items.ensures.value in
+    let n = ap length c.as_slice-choice-items.ensures.value in
     let e = boxed (used_slots c.args.self.now) c.args.choices.now.list c.loop-i.labels c.loop-i.i (Some c.in-Some.opening.labels) c.args.self.now.lawful (omega arith) (omega (arith, c.loop-i.invariant.0)) c.loop-i.invariant.1 c.in-Some.ensures in
     record { value = cc; law = opening_means }

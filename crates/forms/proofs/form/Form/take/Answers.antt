@@ -7,14 +7,14 @@ use Rattle.forms.proofs.FormCells.{held, filled}
 use Rattle.forms.proofs.form.Form.take.Goals as goal
 
 pub bounds-cells-i : goal.bounds-cells-i
-bounds-cells-i c = let h = held c.args.cells.now c.if-not-is-lawful.ensures in omega (arith, h.long)
+bounds-cells-i c = let h = held c.args.cells.now c.if-not-is_lawful.ensures in omega (arith, h.long)
 
 pub bounds-slots-i : goal.bounds-slots-i
-bounds-slots-i c = let h = held c.args.cells.now c.if-not-is-lawful.ensures in omega (arith, h.few)
+bounds-slots-i c = let h = held c.args.cells.now c.if-not-is_lawful.ensures in omega (arith, h.few)
 
 pub loop-i-preserved : goal.loop-i-preserved
 loop-i-preserved c =
-    let h = held c.args.cells.now c.if-not-is-lawful.ensures in
+    let h = held c.args.cells.now c.if-not-is_lawful.ensures in
     let cells = drop 2 c.args.cells.now in
     let i = c.loop-i.i in
     let within : i < length cells = simp length-drop (omega (arith, h.long)) in
@@ -26,16 +26,16 @@ loop-i-preserved c =
           ∙ sym (map_more slot_said cells i 0 within),
     )
 
-pub invariant-of-self : goal.invariant-of-self
-invariant-of-self c =
-    let h = held c.args.cells.now c.if-not-is-lawful.ensures in
-    let same : c.loop-i.i ≡ c.from_used.result = omega arith in
-    let taken = filled c.args.cells.now h c.loop-i.slots c.loop-i.i c.from_used.result c.from_used.ensures same c.loop-i.invariant.1 in
-    (omega (arith, h.few), (subst (λ (ss : List Slot). form_lawful ss ≡ true) (sym taken) h.lawful, tt))
+pub invariant_of-self : goal.invariant_of-self
+invariant_of-self c =
+    let h = held c.args.cells.now c.if-not-is_lawful.ensures in
+    let same : c.loop-i.i ≡ c.from-used.result = omega arith in
+    let taken = filled c.args.cells.now h c.loop-i.slots c.loop-i.i c.from-used.result c.from-used.ensures same c.loop-i.invariant.1 in
+    record { few = omega (arith, h.few); lawful = subst (λ (ss : List Slot). form_lawful ss ≡ true) (sym taken) h.lawful }
 
 pub returns : goal.returns
 returns c =
-    let h = held c.args.cells.now c.if-not-is-lawful.ensures in
-    let same : c.loop-i.i ≡ c.from_used.result = omega arith in
-    let taken = filled c.args.cells.now h c.loop-i.slots c.loop-i.i c.from_used.result c.from_used.ensures same c.loop-i.invariant.1 in
+    let h = held c.args.cells.now c.if-not-is_lawful.ensures in
+    let same : c.loop-i.i ≡ c.from-used.result = omega arith in
+    let taken = filled c.args.cells.now h c.loop-i.slots c.loop-i.i c.from-used.result c.from-used.ensures same c.loop-i.invariant.1 in
     rw h.said (record { value = refl; after = taken })

@@ -14,8 +14,8 @@ loop-l-preserved c = some_more c.args.labels c.loop-l.l-index (omega arith) c.if
 passed : (b : List ℕ) (i : ℕ) → length b ≤ i → all_some (drop i b) ≡ all_some b → all_some b ≡ true
 passed b i h e = sym e ∙ at_drop_all all_some b i h
 
-pub invariant-of-result : goal.invariant-of-result
-invariant-of-result c = ((omega arith, some_full c.args.labels (passed _ c.loop-l.l-index (omega arith) c.loop-l.invariant), search rules), tt)
+pub invariant_of-result : goal.invariant_of-result
+invariant_of-result c = record { boxed = (omega arith, some_full c.args.labels (passed _ c.loop-l.l-index (omega arith) c.loop-l.invariant), search rules) }
 
 pub returns : goal.returns
 returns c = rw (passed c.args.labels c.loop-l.l-index (omega arith) c.loop-l.invariant) refl

@@ -5,8 +5,8 @@ use Rattle.kits.proofs.BoxLaws.{volume_more, volume_fits}
 use Rattle.kits.proofs.VolumeLaws.{volume_law}
 use Rattle.kits.proofs.label_box.LabelBox.volume.Goals as goal
 
-pub overflow-mul-v : goal.overflow-mul-v
-overflow-mul-v c =
+pub overflow_mul-v : goal.overflow_mul-v
+overflow_mul-v c =
     let fits : ℕ → Type 0 = λ n. c.loop-l.v * n < 2 ^ 128 in
     omega (arith, subst fits (sym c.from-v.ensures) (volume_fits c.args.self.now.labels c.loop-l.v c.loop-l.l-index c.args.self.now.boxed (omega arith) c.loop-l.invariant))
 

@@ -4,8 +4,8 @@ use Rattle.rule_books.specs.Exact.{some_below}
 use Rattle.rule_books.specs.Narrowing.{no_row_with}
 use Rattle.rule_books.proofs.narrowing.choices.+no_row_after.Given as goal
 
-abbrev pub decreases-no-row-after : goal.decreases-no-row-after
-decreases-no-row-after l = length l.labels.now - l.at
+abbrev pub decreases-no_row_after : goal.decreases-no_row_after
+decreases-no_row_after l = length l.labels.now - l.at
 
 abbrev pub invariant-loop-v : goal.invariant-loop-v
 invariant-loop-v l =

@@ -5,8 +5,8 @@ use Rattle.kits.proofs.BoxLaws.{volume_more}
 use Rattle.rule_books.proofs.CountLaws.{choices_fit}
 use Rattle.rule_books.proofs.narrowing.choices.more_choices.Goals as goal
 
-pub overflow-mul-choices : goal.overflow-mul-choices
-overflow-mul-choices c =
+pub overflow_mul-choices : goal.overflow_mul-choices
+overflow_mul-choices c =
     omega (arith, choices_fit c.args.labels.now c.loop-label.choices c.loop-label.label-index c.requires.0 c.requires.1.0 c.requires.1.1 c.loop-label-test.true c.loop-label.invariant)
 
 pub loop-label-preserved : goal.loop-label-preserved

@@ -31,16 +31,16 @@ loop-v-preserved c =
     let alone = take (length labels) (set c.loop-v.alone place ((1 * 2 ^ v) % 2 ^ 16)) in
     let alone-is : alone ≡ set labels place (2 ^ v) = rw s (c.loop-v.invariant.1 (2 ^ v)) in
     elim c.if-has.branch [
-      | then-has+then-some-no-row w ↦
+      | then-has+then-some_no_row w ↦
           (let e = spared_alone alone labels c.args.cells.now place v c.args.count w.some_no_row.result alone-is w.some_no_row.ensures in
-          let t : q v ≡ true = rw (sym c.has.ensures ∙ w.if-has.true, ne_eqb v 0 filled) (sym e ∙ w.if-some-no-row.true) in (
+          let t : q v ≡ true = rw (sym c.has.ensures ∙ w.if-has.true, ne_eqb v 0 filled) (sym e ∙ w.if-some_no_row.true) in (
             rw w.alone-is (length-set c.loop-v.alone place _ ∙ c.loop-v.invariant.0),
             λ x. rw w.alone-is (ap (take (length labels)) (set-set c.loop-v.alone place _ x) ∙ c.loop-v.invariant.1 x),
             label_with v c.loop-v.found c.if-has.found q c.loop-v.invariant.2 t (w.found-is ∙ ap (bit_or c.loop-v.found) s),
           ))
-      | then-has+else-some-no-row w ↦
+      | then-has+else-some_no_row w ↦
           (let e = spared_alone alone labels c.args.cells.now place v c.args.count w.some_no_row.result alone-is w.some_no_row.ensures in
-          let t : q v ≡ false = rw (sym c.has.ensures ∙ w.if-has.true, ne_eqb v 0 filled) (sym e ∙ w.if-some-no-row.false) in (
+          let t : q v ≡ false = rw (sym c.has.ensures ∙ w.if-has.true, ne_eqb v 0 filled) (sym e ∙ w.if-some_no_row.false) in (
             rw w.alone-is (length-set c.loop-v.alone place _ ∙ c.loop-v.invariant.0),
             λ x. rw w.alone-is (ap (take (length labels)) (set-set c.loop-v.alone place _ x) ∙ c.loop-v.invariant.1 x),
             label_without v c.loop-v.found c.if-has.found q c.loop-v.invariant.2 t w.found-is,
@@ -50,9 +50,9 @@ loop-v-preserved c =
           (rw w.alone-is c.loop-v.invariant.0, λ x. rw w.alone-is (c.loop-v.invariant.1 x), label_without v c.loop-v.found c.if-has.found q c.loop-v.invariant.2 t w.found-is))
     ]
 
-pub returns-then-other-empty : goal.returns-then-other-empty
-returns-then-other-empty c =
-    sym (found_all c.args.labels.now c.args.place c.requires.1.1.0 (λ k h. omega (arith, c.type-inv.labels k)) c.requires.1.0 _ (λ g t. or_left (some_empty g) _ t) (sym c.if-other-empty.ensures))
+pub returns-then-other_empty : goal.returns-then-other_empty
+returns-then-other_empty c =
+    sym (found_all c.args.labels.now c.args.place c.requires.1.1.0 (λ k h. omega (arith, c.type_inv.labels k)) c.requires.1.0 _ (λ g t. or_left (some_empty g) _ t) (sym c.if-other_empty.ensures))
 
 pub returns : goal.returns
 returns c =
@@ -60,4 +60,4 @@ returns c =
     let rows = rows_of c.args.count (length labels) c.args.cells.now in
     let e : c.loop-v.v ≡ 16 = omega arith in
     c.loop-v.invariant.2 ∙ ap (λ (n : ℕ). label_of n (is_spared rows labels c.args.place)) e
-    ∙ sym (found_spared labels c.args.place c.requires.1.1.0 (λ k h. omega (arith, c.type-inv.labels k)) c.requires.1.0 rows (sym c.if-other-empty.ensures))
+    ∙ sym (found_spared labels c.args.place c.requires.1.1.0 (λ k h. omega (arith, c.type_inv.labels k)) c.requires.1.0 rows (sym c.if-other_empty.ensures))

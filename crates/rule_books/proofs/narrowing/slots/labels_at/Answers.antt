@@ -10,8 +10,8 @@ loop-i-preserved c =
     let b = c.args.b.now.labels in
     let slots = c.args.slots.now in (
       simp length-set c.loop-i.invariant.0,
-      filled_more c.loop-i.out (at_slots slots b) c.loop-i.i c.label-at.result (omega (arith, slots_length slots b)) (omega (arith, c.loop-i.invariant.0, c.requires))
-          (c.label-at.ensures ∙ ap (λ (s : ℕ). get_or b s 0) c.from.ensures ∙ sym (get_or-map (λ s. get_or b s 0) slots c.loop-i.i 0 0 c.loop-i-test.true)) c.loop-i.invariant.1,
+      filled_more c.loop-i.out (at_slots slots b) c.loop-i.i c.label_at.result (omega (arith, slots_length slots b)) (omega (arith, c.loop-i.invariant.0, c.requires))
+          (c.label_at.ensures ∙ ap (λ (s : ℕ). get_or b s 0) c.from.ensures ∙ sym (get_or-map (λ s. get_or b s 0) slots c.loop-i.i 0 0 c.loop-i-test.true)) c.loop-i.invariant.1,
     )
 
 pub returns : goal.returns

@@ -8,7 +8,7 @@ loop-i-preserved c =
     let slots = c.args.slots.now in
     let labels = c.args.labels.now in
     let i = c.loop-i.i in
-    ap (put_at (drop (i + 1) slots) (drop (i + 1) labels)) (c.put-label.ensures ∙ ap (λ (s : ℕ). set c.loop-i.b.labels s (get_or labels i 0)) c.from.ensures)
+    ap (put_at (drop (i + 1) slots) (drop (i + 1) labels)) (c.put_label.ensures ∙ ap (λ (s : ℕ). set c.loop-i.b.labels s (get_or labels i 0)) c.from.ensures)
     ∙ put_more slots labels c.loop-i.b.labels i c.loop-i-test.true (omega (arith, c.requires.0))
     ∙ c.loop-i.invariant
 

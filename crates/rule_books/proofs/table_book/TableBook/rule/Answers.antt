@@ -5,11 +5,11 @@ use Rattle.rule_books.proofs.table_book.TableBook.rule.Goals as goal
 pub bounds-self-from : goal.bounds-self-from
 bounds-self-from c = omega (arith, c.from.ensures, own_few c.args.self.now c.args.number c.requires)
 
-pub slice-bounds-begin-rule-count : goal.slice-bounds-begin-rule-count
-slice-bounds-begin-rule-count c = rw (c.from-place.ensures, c.from.ensures) (own_within c.args.self.now c.args.number c.requires)
+pub slice_bounds-begin_rule-count : goal.slice_bounds-begin_rule-count
+slice_bounds-begin_rule-count c = rw (c.from-place.ensures, c.from.ensures) (own_within c.args.self.now c.args.number c.requires)
 
-pub slice-bounds-begin-rule-start : goal.slice-bounds-begin-rule-start
-slice-bounds-begin-rule-start c =
+pub slice_bounds-begin_rule-start : goal.slice_bounds-begin_rule-start
+slice_bounds-begin_rule-start c =
     let h : c.from-place.result ≤ c.args.self.now.long = rw (c.from-place.ensures, c.from.ensures) (own_within c.args.self.now c.args.number c.requires) in
     search rules
 

@@ -10,10 +10,10 @@ loop-i-init c =
     let e = ap length c.requires.last ∙ length-drop (length c.args.cells.now - length c.args.rules.now) c.args.cells.now in
     (refl, c.requires.last, omega arith, placing_none c.args.cells.now (listed c.args.slots.now) c.args.count c.args.rules.now _)
 
-pub returns-in-err-after : goal.returns-in-err-after
-returns-in-err-after c =
-    rw c.from-residual.ensures
-    (placing_failed c.args.cells.now (listed c.args.slots.now) c.args.count c.args.rules.now c.loop-i.places c.loop-i.i c.loop-i.left.now c.loop-i.invariant.3 c.loop-i-test.true c.in-err-after.ensures)
+pub returns-in_err-after : goal.returns-in_err-after
+returns-in_err-after c =
+    rw c.from_residual.ensures
+    (placing_failed c.args.cells.now (listed c.args.slots.now) c.args.count c.args.rules.now c.loop-i.places c.loop-i.i c.loop-i.left.now c.loop-i.invariant.3 c.loop-i-test.true c.in_err-after.ensures)
 
 pub loop-i-preserved : goal.loop-i-preserved
 loop-i-preserved c =
@@ -21,15 +21,15 @@ loop-i-preserved c =
     let cells = c.args.cells.now in
     let left = c.loop-i.left.now in
     let slots = listed c.args.slots.now in
-    let e = c.in-ok-after.ensures in
+    let e = c.in_ok-after.ensures in
     let x = length cells - length left in
-    let after = last_after left c.in-ok-after.after.now (rule_cells (rule_in c.in-ok-after.field-0-0)) cells inv.1 inv.2 (rule_says slots left _ (sym e)).1 in
+    let after = last_after left c.in_ok-after.after.now (rule_cells (rule_in c.in_ok-after.field-0-0)) cells inv.1 inv.2 (rule_says slots left _ (sym e)).1 in
     let more = placing_more cells slots c.args.count c.args.rules.now c.loop-i.places c.loop-i.i left inv.3 c.loop-i-test.true _ x inv.0 c.requires.few e inv.1 in
     let at : c.from.result ≡ c.loop-i.i = c.from.ensures in
     (simp length-set inv.0, after.0, after.1, rw at more)
 
-pub returns-then-is-empty : goal.returns-then-is-empty
-returns-then-is-empty c = placing_all c.args.cells.now (listed c.args.slots.now) c.args.count c.args.rules.now c.loop-i.places c.loop-i.i c.loop-i.left.now c.loop-i.invariant.3 c.loop-i-test.false (sym c.if-is-empty.ensures)
+pub returns-then-is_empty : goal.returns-then-is_empty
+returns-then-is_empty c = placing_all c.args.cells.now (listed c.args.slots.now) c.args.count c.args.rules.now c.loop-i.places c.loop-i.i c.loop-i.left.now c.loop-i.invariant.3 c.loop-i-test.false (sym c.if-is_empty.ensures)
 
-pub returns-else-is-empty : goal.returns-else-is-empty
-returns-else-is-empty c = placing_unfinished c.args.cells.now (listed c.args.slots.now) c.args.count c.args.rules.now c.loop-i.places c.loop-i.i c.loop-i.left.now c.loop-i.invariant.3 c.loop-i-test.false (sym c.if-is-empty.ensures)
+pub returns-else-is_empty : goal.returns-else-is_empty
+returns-else-is_empty c = placing_unfinished c.args.cells.now (listed c.args.slots.now) c.args.count c.args.rules.now c.loop-i.places c.loop-i.i c.loop-i.left.now c.loop-i.invariant.3 c.loop-i-test.false (sym c.if-is_empty.ensures)

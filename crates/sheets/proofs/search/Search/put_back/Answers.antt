@@ -20,12 +20,12 @@ cut b p q h =
     record { several = s; first = ap (λ (x : List ℕ × List ℕ). x.0) e; second = ap (λ (x : List ℕ × List ℕ). x.1) e })
     (cases_Bool (single b))
 
-pub put-first-requires-in-Some : goal.put-first-requires-in-Some
-put-first-requires-in-Some c =
+pub put_first-requires-in-Some : goal.put_first-requires-in-Some
+put_first-requires-in-Some c =
     let k = cut c.args.b.labels c.in-Some.halves.0.labels c.in-Some.halves.1.labels c.in-Some.ensures.value in
     omega (arith, c.requires, settled_second c.args.b.labels, ap settled k.second)
 
-pub put-first-requires-in-Some-2 : goal.put-first-requires-in-Some-2
-put-first-requires-in-Some-2 c =
+pub put_first-requires-in-Some-2 : goal.put_first-requires-in-Some-2
+put_first-requires-in-Some-2 c =
     let k = cut c.args.b.labels c.in-Some.halves.0.labels c.in-Some.halves.1.labels c.in-Some.ensures.value in
-    omega (arith, c.requires, settled_first c.args.b.labels k.several, ap settled k.first, ap length c.put-first-in-Some.ensures.boxes)
+    omega (arith, c.requires, settled_first c.args.b.labels k.several, ap settled k.first, ap length c.put_first-in-Some.ensures.boxes)

@@ -18,15 +18,15 @@ listed c = omega (arith, room c.args.self.now c.args.b c.requires)
 pub bounds-self-self : goal.bounds-self-self
 bounds-self-self c = room c.args.self.now c.args.b c.requires
 
-pub overflow-add-self : goal.overflow-add-self
-overflow-add-self c = omega (arith, room c.args.self.now c.args.b c.requires)
+pub overflow_add-self : goal.overflow_add-self
+overflow_add-self c = omega (arith, room c.args.self.now c.args.b c.requires)
 
-pub invariant-of-self : goal.invariant-of-self
-invariant-of-self c =
+pub invariant_of-self : goal.invariant_of-self
+invariant_of-self c =
     let s = c.args.self.now in
     let h = room s c.args.b c.requires in
     let more = stacked_more c.args.b.labels (state_of s).boxes c.requires s.room in
-    (omega arith, (subst (λ (w : List (List ℕ)). stacked w ≡ true) (sym (waiting_more s.boxes s.waiting c.args.b (omega arith))) more, tt))
+    record { few = omega arith; room = subst (λ (w : List (List ℕ)). stacked w ≡ true) (sym (waiting_more s.boxes s.waiting c.args.b (omega arith))) more }
 
 pub returns : goal.returns
 returns c =

@@ -7,11 +7,11 @@ use Rattle.sheets.proofs.StackLaws.{stacked_first}
 use Rattle.sheets.proofs.search.Search.step.Goals as goal
 
 -- the box that was taken off has slots enough with one member, and narrowing leaves them so
-pub put-back-requires : goal.put-back-requires
-put-back-requires g c =
+pub put_back-requires : goal.put_back-requires
+put_back-requires g c =
     let k = g.B.Book in
     let book = c.args.book.now in
     let b = c.in-Some.first in
-    let w = (state_of c.take-first.new.self).boxes in
+    let w = (state_of c.take_first.new.self).boxes in
     let before = stacked_first b.labels w (subst (λ (x : List (List ℕ)). stacked x ≡ true) c.in-Some.ensures.boxes c.args.self.now.room) in
     omega (arith, before, all_settled (k.rules book) (k.allows book) (k.narrowed book) (g.met.B.Book.points book) (members c.args.rules) b.labels c.in-Some-narrowed.b.labels b.boxed (sym c.in-Some-narrowed.ensures))

@@ -2,8 +2,8 @@ use Rattle.std.proofs.Common.{refl, arith}
 use Rattle.sheets.proofs.StackLaws.{waiting_first, stacked_less}
 use Rattle.sheets.proofs.search.Search.take_first.Goals as goal
 
-pub invariant-of-self : goal.invariant-of-self
-invariant-of-self c = (omega arith, (stacked_less c.args.self.now.boxes c.args.self.now.waiting (omega arith) c.args.self.now.room, tt))
+pub invariant_of-self : goal.invariant_of-self
+invariant_of-self c = record { few = omega arith; room = stacked_less c.args.self.now.boxes c.args.self.now.waiting (omega arith) c.args.self.now.room }
 
 pub returns : goal.returns
 returns c =

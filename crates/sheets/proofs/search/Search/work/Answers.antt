@@ -8,13 +8,13 @@ use Rattle.sheets.proofs.search.Search.work.Goals as goal
 pub loop-steps-preserved : goal.loop-steps-preserved
 loop-steps-preserved g c =
     let s = state_of c.loop-steps.self in
-    let m = run_more (g.B.Book.narrowed c.args.book.now) (members c.args.rules) c.args.budget c.loop-steps.steps s (state_of c.step.new.self) c.loop-steps-test.true (sym c.if-not-is-ended.ensures) c.step.ensures in
+    let m = run_more (g.B.Book.narrowed c.args.book.now) (members c.args.rules) c.args.budget c.loop-steps.steps s (state_of c.step.new.self) c.loop-steps-test.true (sym c.if-not-is_ended.ensures) c.step.ensures in
     (omega arith, m.0 ∙ c.loop-steps.invariant.1, omega (arith, m.1, c.loop-steps.invariant.2))
 
-pub returns-else-not-is-ended : goal.returns-else-not-is-ended
-returns-else-not-is-ended g c =
+pub returns-else-not-is_ended : goal.returns-else-not-is_ended
+returns-else-not-is_ended g c =
     let s = state_of c.loop-steps.self in
-    let m = run_ended (g.B.Book.narrowed c.args.book.now) (members c.args.rules) (c.args.budget - c.loop-steps.steps) s.boxes s.standing (sym c.if-not-is-ended.ensures) in
+    let m = run_ended (g.B.Book.narrowed c.args.book.now) (members c.args.rules) (c.args.budget - c.loop-steps.steps) s.boxes s.standing (sym c.if-not-is_ended.ensures) in
     record { value = omega (arith, m.1, c.loop-steps.invariant.2); after = sym m.0 ∙ c.loop-steps.invariant.1; law = search_right }
 
 pub returns-after-loop-steps : goal.returns-after-loop-steps

@@ -27,7 +27,7 @@ loop-left-preserved g c =
     let narrowed = g.B.Book.narrowed c.args.book.now in
     let b = c.loop-left.narrowed.labels in
     let turn = narrowed_least narrowed c.loop-left.left b (omega arith) (omega arith) in
-    let some = fit-some (narrowed _ b) b c.narrow.new.b.labels c.in-default.ensures.fit c.in-default.ensures.after in
+    let some = fit-some (narrowed _ b) b c.narrow.new.b.labels c.in_default.ensures.fit c.in_default.ensures.after in
     (omega (arith, and_le_l c.loop-left.left (c.loop-left.left - 1)), sym (rw some at turn) ∙ c.loop-left.invariant.1)
 
 pub returns : goal.returns

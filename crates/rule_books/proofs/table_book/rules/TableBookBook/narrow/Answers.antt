@@ -8,8 +8,8 @@ use Rattle.rule_books.proofs.Ready.{rule_ready}
 use Rattle.rule_books.specs.TableLaws.{narrowed_at}
 use Rattle.rule_books.proofs.table_book.rules.TableBookBook.narrow.Goals as goal
 
-pub narrow-rule-requires : goal.narrow-rule-requires
-narrow-rule-requires c =
+pub narrow_rule-requires : goal.narrow_rule-requires
+narrow_rule-requires c =
     let book = c.args.self.now in
     let h = c.if-rule-self.true in
     let own = own_rules book c.args.rule h in
@@ -22,4 +22,4 @@ returns-then-rule-self c =
     let book = c.args.self.now in
     let b = c.args.b.now.labels in
     let e = narrowed_at (book_rules book) c.args.rule _ b (own_below book c.args.rule c.if-rule-self.true) c.rule.ensures in
-    record { fit = c.narrow-rule.ensures.fit ∙ ap fit_of e; after = c.narrow-rule.ensures.after ∙ ap (λ (o : Option (List ℕ)). box_or o b) e }
+    record { fit = c.narrow_rule.ensures.fit ∙ ap fit_of e; after = c.narrow_rule.ensures.after ∙ ap (λ (o : Option (List ℕ)). box_or o b) e }
