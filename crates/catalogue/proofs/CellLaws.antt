@@ -1,16 +1,18 @@
 -- The catalogue that cells say has these cells, and the cells of a lawful catalogue say it.
-use Rattle.std.proofs.Common.{◌≡◌, ℕ, zero, suc, ◌+◌, ◌-◌, ◌*◌, ◌≤◌, Bool, true, false, cond, ◌&&◌, eqb, leb, List, [], ◌∷◌, ◌++◌, map, length, take, drop, Some, None, sym, refl, ap, ◌∙◌, ap₂, append_assoc, suc-mul, zero-mul, arith, length-append, length-drop, length-take}
+use Rattle.std.proofs.Common.{◌≡◌, ℕ, zero, suc, ◌+◌, ◌-◌, ◌*◌, ◌≤◌, Bool, true, false, cond, ◌&&◌, eqb, leb, List, [], ◌∷◌, ◌++◌, map, length, take, drop, Some, None, Option, sym, refl, ap, ◌∙◌, ap₂, append_assoc, suc-mul, zero-mul, arith, length-append, length-drop, length-take}
 use lib.ListN.{length-map}
 use Rattle.std.specs.List.{flat_map}
+use Rattle.std.specs.Option.{option_map}
 use Rattle.std.proofs.lemmas.List.{take-append-drop, take_at, drop_at, nil_from_length}
 use Rattle.std.proofs.lemmas.Bool.{false≢true, and_parts, and_from, leb-true, le-leb, eqb-true}
 use Rattle.std.proofs.lemmas.Bool.Decides.{nat_tests}
+use Rattle.fields.specs.Results.{and_then}
 use Rattle.fields.proofs.Chains.{and_then_case, mapped_case, cond_case, cond_some}
 use Rattle.catalogue.specs.declared.model.Kind.{Kind}
 use Rattle.catalogue.specs.declared.model.Kind.TheVariants.{Goes, Needs, Bars}
 use Rattle.catalogue.specs.declared.model.Slot.{Slot}
 use Rattle.catalogue.specs.Catalogues.{Rule, Catalogue}
-use Rattle.catalogue.specs.Cells.{slot_cell, kind_cell, target_cell, rule_cells, cells_of, slot_of, slots_of, kind_of, cut_cells, counted, rows_of, rule_begun, rule_of, rules_of, catalogue_of}
+use Rattle.catalogue.specs.Cells.{slot_cell, kind_cell, target_cell, rule_cells, cells_of, slot_of, slots_of, kind_of, cut_cells, counted, rows_of, rule_begun, lawful_rule, rule_of, rules_of, catalogue_of}
 use Rattle.catalogue.specs.Lawful.{all, slot_lawful, offered, row_lawful, rule_lawful, head_lawful, lawful}
 
 -- what is not there is nothing
@@ -153,12 +155,33 @@ begun_says (k ∷ t ∷ wide ∷ cs) p h =
     let count = rows_count n.0 wide flat.0 in
     rw (← same) (rw (g, a.0, a.1, b.0, count, f, d.1, c, b.1))))))
 
+and_then_on : {T U V : Type 0} (o : Option T) (f : T → Option V) (g : T → Option U) (h : U → Option V)
+    → ((x : T) → f x ≡ and_then (g x) h) → and_then o f ≡ and_then (and_then o g) h
+and_then_on None f g h same = refl
+and_then_on (Some x) f g h same = same x
+
+mapped_on : {T U V : Type 0} (o : Option T) (f : T → Option V) (g : T → U) (h : U → Option V)
+    → ((x : T) → f x ≡ h (g x)) → and_then o f ≡ and_then (option_map g o) h
+mapped_on None f g h same = refl
+mapped_on (Some x) f g h same = same x
+
+-- the lawful rule that begins cells is the rule that begins them, if that is lawful
+pub rule_of_begun : (slots : List Slot) (cs : List ℕ) → rule_of slots cs ≡ and_then (rule_begun cs) (λ p. lawful_rule slots p.0 p.1)
+rule_of_begun slots [] = refl
+rule_of_begun slots (k ∷ []) = refl
+rule_of_begun slots (k ∷ t ∷ []) = refl
+rule_of_begun slots (k ∷ t ∷ wide ∷ cs) =
+    and_then_on (kind_of k t) _ _ _ (λ kind.
+    and_then_on (cut_cells wide cs) _ _ _ (λ own.
+    and_then_on (counted own.1) _ _ _ (λ n.
+    mapped_on (cut_cells (n.0 * wide) n.1) _ _ _ (λ flat. refl))))
+
 -- rules over the same slots
 module _ (slots : List Slot) where
   pub rule_says : (cs : List ℕ) (p : Rule × List ℕ) → rule_of slots cs ≡ Some p
       → (rule_lawful slots p.0 ≡ true) × (rule_cells p.0 ++ p.1 ≡ cs)
   rule_says cs p h =
-      and_then_case (rule_begun cs) _ p h (λ q begun more.
+      and_then_case (rule_begun cs) _ p (sym (rule_of_begun slots cs) ∙ h) (λ q begun more.
       let e = cond_value (rule_lawful slots q.0) q p more in
       rw (← e.1) (e.0, begun_says cs q begun))
 
@@ -174,7 +197,7 @@ module _ (slots : List Slot) where
       rw (kind_said r.kind, append_assoc, own, rest-cut, rows)
 
   rule_said : (r : Rule) (rest : List ℕ) → rule_lawful slots r ≡ true → rule_of slots (rule_cells r ++ rest) ≡ Some (r, rest)
-  rule_said r rest h = rw (rule_begins r rest h, h)
+  rule_said r rest h = rw (rule_of_begun slots (rule_cells r ++ rest), rule_begins r rest h, h)
 
   pub rules_say : (n : ℕ) (cs : List ℕ) (rs : List Rule) → rules_of n slots cs ≡ Some rs
       → (length rs ≡ n) × (all (rule_lawful slots) rs ≡ true) × (flat_map rule_cells rs ≡ cs)

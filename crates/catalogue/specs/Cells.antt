@@ -73,12 +73,20 @@ rule_begun (kind ∷ t ∷ arity ∷ cs) =
     and_then (counted own.1) (λ n.
     option_map (λ rows. (record { kind = k; slots = own.0; rows = rows_of n.0 arity rows.0 }, rows.1)) (cut_cells (n.0 * arity) n.1))))
 
-abbrev pub if_lawful : List Slot → Rule × List ℕ → Option (Rule × List ℕ)
-if_lawful slots p = cond (rule_lawful slots p.0) (Some p) None
+abbrev pub lawful_rule : List Slot → Rule → List ℕ → Option (Rule × List ℕ)
+lawful_rule slots r cs = cond (rule_lawful slots r) (Some (r, cs)) None
 
 -- the lawful rule that begins cells, and the cells after it
 abbrev pub rule_of : List Slot → List ℕ → Option (Rule × List ℕ)
-rule_of slots cs = and_then (rule_begun cs) (if_lawful slots)
+rule_of slots [] = None
+rule_of slots (kind ∷ []) = None
+rule_of slots (kind ∷ t ∷ []) = None
+rule_of slots (kind ∷ t ∷ arity ∷ cs) =
+    and_then (kind_of kind t) (λ k.
+    and_then (cut_cells arity cs) (λ own.
+    and_then (counted own.1) (λ n.
+    and_then (cut_cells (n.0 * arity) n.1) (λ rows.
+    lawful_rule slots (record { kind = k; slots = own.0; rows = rows_of n.0 arity rows.0 }) rows.1))))
 
 -- n lawful rules that are all the cells
 abbrev pub rules_of : ℕ → List Slot → List ℕ → Option (List Rule)

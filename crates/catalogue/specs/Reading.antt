@@ -8,7 +8,7 @@ use Rattle.fields.specs.declared.fault.FaultKind.TheVariants.{WrongForm, OutOfRa
 use Rattle.fields.specs.Faults.{fault}
 use Rattle.fields.specs.Lines.{Position, begun, keyed_line}
 use Rattle.fields.specs.Numbers.{number_at, only_number, numbers_up_to, after_space}
-use Rattle.fields.specs.Results.{then, and_then, or_else, mapped_ok, found_or}
+use Rattle.fields.specs.Results.{then, and_then, mapped_ok, found_or}
 use Rattle.fields.specs.Words.{after_word}
 use Rattle.catalogue.specs.declared.model.Kind.{Kind}
 use Rattle.catalogue.specs.declared.model.Kind.TheVariants.{Goes, Needs, Bars}
@@ -31,7 +31,7 @@ repeated one (suc n) p = then (one p) (λ x. mapped_ok (λ xs. (x.0 ∷ xs.0, xs
 
 -- key=number, within bounds
 abbrev pub number_line : List ℕ → ℕ → ℕ → Position → Result (ℕ × Position) Fault
-number_line key low high p = then (formed_line key (only_number 99999) p) (λ n. asked OutOfRange p.line (nat_le low n.0 && nat_le n.0 high) n)
+number_line key low high p = then (formed_line key only_number p) (λ n. asked OutOfRange p.line (nat_le low n.0 && nat_le n.0 high) n)
 
 abbrev pub standing : List ℕ → Option Bool
 standing w = cond (bytes_eq w (codes "standard")) (Some true) (cond (bytes_eq w (codes "optional")) (Some false) None)
@@ -48,7 +48,11 @@ slots_lines n p = repeated slot_line n p
 
 -- a number after a word and one space
 abbrev pub word_number : List ℕ → List ℕ → Option ℕ
-word_number word t = and_then (after_word t word) (λ d. and_then (after_space d) (only_number 99999))
+word_number word t = and_then (after_word t word) (λ d. and_then (after_space d) only_number)
+
+abbrev pub or_else : {T : Type 0} → Option T → Option T → Option T
+or_else None y = y
+or_else (Some x) y = Some x
 
 abbrev pub kind_value : List ℕ → Option Kind
 kind_value t = cond (bytes_eq t (codes "goes")) (Some Goes) (or_else (option_map Needs (word_number (codes "needs") t)) (option_map Bars (word_number (codes "bars") t)))

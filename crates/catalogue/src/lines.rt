@@ -27,13 +27,12 @@ pub(crate) fn number_line(
 {
     let line = reader.line();
     let value = reader.value_of(key)?;
-    let Some(n) = only_number(value, 99_999) else {
+    let Some(n) = only_number(value) else {
         return Err(Fault {
             kind: FaultKind::WrongForm,
             line,
         });
     };
-    let n = n as u32;
     if n < low || n > high {
         return Err(Fault {
             kind: FaultKind::OutOfRange,
@@ -93,8 +92,7 @@ pub(crate) fn slot_line(reader: &mut Reader) -> Result<Slot, Fault>
 fn word_number(word: &[u8], text: &[u8]) -> Option<u32>
     ensures { result ≡ word_number word.now text.now }
 {
-    let n = only_number(past_space(past_word(text, word)?)?, 99_999)?;
-    Some(n as u32)
+    only_number(past_space(past_word(text, word)?)?)
 }
 
 fn kind_of(text: &[u8]) -> Option<Kind>

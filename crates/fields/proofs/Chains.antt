@@ -1,7 +1,7 @@
 -- A chain of steps that came to a value, by what each step came to.
 use Rattle.std.proofs.Common.{◌≡◌, ℕ, Bool, true, false, cond, Some, None, Ok, Err, Option, Result, refl, ap, arith}
 use Rattle.std.specs.Option.{option_map}
-use Rattle.fields.specs.Results.{mapped_ok, then, and_then, or_else, found_or}
+use Rattle.fields.specs.Results.{mapped_ok, then, and_then, found_or}
 
 pub then_case : {T U E G : Type 0} (r : Result T E) (f : T → Result U E) (y : U) → then r f ≡ Ok y → ((x : T) → r ≡ Ok x → f x ≡ Ok y → G) → G
 then_case (Ok x) f y h g = g x refl h
@@ -18,10 +18,6 @@ and_then_case (Some x) f y h g = g x refl h
 pub mapped_case : {T U G : Type 0} (f : T → U) (o : Option T) (y : U) → option_map f o ≡ Some y → ((x : T) → o ≡ Some x → f x ≡ y → G) → G
 mapped_case f None y h g = let z : ◌≡◌ {A = ℕ} 0 1 = cc in absurd (omega arith)
 mapped_case f (Some x) y h g = g x refl (cc)
-
-pub or_case : {T G : Type 0} (a b : Option T) (y : T) → or_else a b ≡ Some y → (a ≡ Some y → G) → (b ≡ Some y → G) → G
-or_case None b y h f g = g h
-or_case (Some x) b y h f g = f h
 
 pub found_some : {T E : Type 0} (e : E) (o : Option T) (x : T) → found_or e o ≡ Ok x → o ≡ Some x
 found_some e None x h = let z : ◌≡◌ {A = ℕ} 0 1 = cc in absurd (omega arith)

@@ -4,7 +4,7 @@ use Rattle.std.specs.List.{AllByRecursion as All}
 use Rattle.std.proofs.lemmas.List.{nil_from_length}
 use Rattle.std.proofs.lemmas.Bool.{eqb-true, ne_eqb}
 use Rattle.fields.specs.Law.{Written}
-use Rattle.fields.specs.Numbers.{digit_first, number_at, only_number, after_space, led, numbers_up_to}
+use Rattle.fields.specs.Numbers.{digit_first, number_at, whole_number, after_space, led, numbers_up_to}
 use Rattle.fields.specs.Texts.{spaced_text, numbers_text}
 use Rattle.fields.proofs.Chains.{and_then_case, cond_case, cond_some}
 use Rattle.fields.proofs.Digits.{reads_digits}
@@ -17,8 +17,8 @@ module _ (max : ℕ) (fits : max < 2 ^ 64) where
   pub number_writes : (n : ℕ) (rest : List ℕ) → n ≤ max → digit_first rest ≡ false → number_at max (decimal n ++ rest) ≡ Some (n, rest)
   number_writes n rest h e = (reads_digits max fits (decimal n ++ rest) n rest).1 (record { text = refl; small = h; ends = e })
 
-  pub only_reads : (t : List ℕ) (n : ℕ) → only_number max t ≡ Some n → (n ≤ max) × (t ≡ decimal n)
-  only_reads t n h =
+  pub whole_reads : (t : List ℕ) (n : ℕ) → whole_number max t ≡ Some n → (n ≤ max) × (t ≡ decimal n)
+  whole_reads t n h =
       and_then_case (number_at max t) _ n h (λ p p-is h.
       let w = number_reads t p p-is in
       let e = cond_some (eqb (length p.1) 0) (Some p.0) n h in
@@ -26,8 +26,8 @@ module _ (max : ℕ) (fits : max < 2 ^ 64) where
       let b = nil_from_length p.1 (eqb-true _ 0 e.0) in
       (omega arith, w.text ∙ rw (a, b, append-nil (decimal n))))
 
-  pub only_writes : (n : ℕ) → n ≤ max → only_number max (decimal n) ≡ Some n
-  only_writes n h = rw (← append-nil (decimal n), number_writes n [] h refl)
+  pub whole_writes : (n : ℕ) → n ≤ max → whole_number max (decimal n) ≡ Some n
+  whole_writes n h = rw (← append-nil (decimal n), number_writes n [] h refl)
 
 -- numbers of 1 to 5 digits
 pub five : 99999 < 2 ^ 64

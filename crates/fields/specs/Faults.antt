@@ -1,11 +1,10 @@
 -- Faults: their numbers, layers and texts.
 use Rattle.std.specs.Prelude.{ℕ, Some, None, Option}
-use Rattle.std.specs.Option.{option_map}
 use Rattle.fields.specs.declared.fault.Fault.{Fault}
 use Rattle.fields.specs.declared.fault.FaultKind.{FaultKind}
-use Rattle.fields.specs.declared.fault.FaultKind.TheVariants.{TextTooLong, LineMissing, LineTooLong, WrongKey, WrongForm, OutOfRange, SlotsNotRising, TargetAmongSlots, NoStandardSlot, TextAfterEnd, TooManyCells, UnlawfulCells, TextDoesNotFit, WrongOrder, NoRoomForAnswers, TooManyOrders, UnlawfulLoads, Refused}
+use Rattle.fields.specs.declared.fault.FaultKind.TheVariants.{TextTooLong, LineMissing, LineTooLong, WrongKey, WrongForm, OutOfRange, SlotsNotRising, TargetAmongSlots, NoStandardSlot, TextAfterEnd, TooManyCells, UnlawfulCells, TextDoesNotFit}
 use Rattle.fields.specs.declared.fault.Layer.{Layer}
-use Rattle.fields.specs.declared.fault.Layer.TheVariants.{Line, Field, Catalogue, Order}
+use Rattle.fields.specs.declared.fault.Layer.TheVariants.{Line, Field, Catalogue}
 use Rattle.fields.specs.declared.fault.Source.{Source}
 
 -- the number of each fault
@@ -23,11 +22,6 @@ number_of TextAfterEnd = 10
 number_of TooManyCells = 11
 number_of UnlawfulCells = 12
 number_of TextDoesNotFit = 13
-number_of WrongOrder = 14
-number_of NoRoomForAnswers = 15
-number_of TooManyOrders = 16
-number_of UnlawfulLoads = 17
-number_of (Refused n) = n
 
 -- the layer that asks each question
 abbrev pub layer_of : FaultKind → Option Layer
@@ -44,22 +38,14 @@ layer_of TextAfterEnd = Some Catalogue
 layer_of TooManyCells = Some Catalogue
 layer_of UnlawfulCells = None
 layer_of TextDoesNotFit = None
-layer_of WrongOrder = Some Order
-layer_of NoRoomForAnswers = None
-layer_of TooManyOrders = None
-layer_of UnlawfulLoads = None
-layer_of (Refused n) = Some Order
 
--- the text that a layer reads
-abbrev pub read_by : Layer → Source
-read_by Line = Source.Catalogue
-read_by Field = Source.Catalogue
-read_by Catalogue = Source.Catalogue
-read_by Order = Source.Orders
+abbrev of_layer : Option Layer → Option Source
+of_layer None = None
+of_layer (Some l) = Some Source.Catalogue
 
 -- the text that each fault is about
 abbrev pub source_of : FaultKind → Option Source
-source_of k = option_map read_by (layer_of k)
+source_of k = of_layer (layer_of k)
 
 abbrev pub fault : FaultKind → ℕ → Fault
 fault k n = record { kind = k; line = n }

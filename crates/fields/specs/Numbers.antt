@@ -22,9 +22,13 @@ number_at max [] = None
 number_at max (c ∷ cs) =
     cond (c == 48) (cond (digit_first cs) None (Some (0, cs))) (cond (is_digit c) (number_on max 0 (c ∷ cs)) None)
 
+-- the number of 1 to 5 digits that is the whole text
+abbrev pub only_number : List ℕ → Option ℕ
+only_number t = and_then (number_at 99999 t) (λ p. cond (length p.1 == 0) (Some p.0) None)
+
 -- the number that is the whole text; none past max
-abbrev pub only_number : ℕ → List ℕ → Option ℕ
-only_number max t = and_then (number_at max t) (λ p. cond (length p.1 == 0) (Some p.0) None)
+abbrev pub whole_number : ℕ → List ℕ → Option ℕ
+whole_number max t = and_then (number_at max t) (λ p. cond (length p.1 == 0) (Some p.0) None)
 
 -- what follows one space
 abbrev pub after_space : List ℕ → Option (List ℕ)

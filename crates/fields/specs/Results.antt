@@ -16,11 +16,6 @@ abbrev pub and_then : {T U : Type 0} → Option T → (T → Option U) → Optio
 and_then None f = None
 and_then (Some x) f = f x
 
--- what was found first
-abbrev pub or_else : {T : Type 0} → Option T → Option T → Option T
-or_else None y = y
-or_else (Some x) y = Some x
-
 -- what was found, or a refusal
 abbrev pub found_or : {T E : Type 0} → E → Option T → Result T E
 found_or e None = Err e

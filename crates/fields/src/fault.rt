@@ -17,12 +17,6 @@ pub enum FaultKind {
     TooManyCells,
     UnlawfulCells,
     TextDoesNotFit,
-    WrongOrder,
-    NoRoomForAnswers,
-    TooManyOrders,
-    UnlawfulLoads,
-    // The sheet refused an order, by a number of its own.
-    Refused(u8),
 }
 
 // How far a text was understood where its fault was met.
@@ -31,7 +25,6 @@ pub enum Layer {
     Line,
     Field,
     Catalogue,
-    Order,
 }
 
 // The text that a fault is about.
@@ -67,15 +60,10 @@ impl FaultKind {
             FaultKind::TooManyCells => 11,
             FaultKind::UnlawfulCells => 12,
             FaultKind::TextDoesNotFit => 13,
-            FaultKind::WrongOrder => 14,
-            FaultKind::NoRoomForAnswers => 15,
-            FaultKind::TooManyOrders => 16,
-            FaultKind::UnlawfulLoads => 17,
-            FaultKind::Refused(number) => number,
         }
     }
 
-    // The layer that asked, or none where the question is not about a text.
+    // The layer that asked, or none where no text is read.
     pub fn layer(self) -> Option<Layer>
         ensures { result ≡ layer_of self }
     {
@@ -90,17 +78,16 @@ impl FaultKind {
             | FaultKind::NoStandardSlot
             | FaultKind::TextAfterEnd
             | FaultKind::TooManyCells => Some(Layer::Catalogue),
-            FaultKind::WrongOrder | FaultKind::Refused(_) => Some(Layer::Order),
-            _ => None,
+            FaultKind::UnlawfulCells | FaultKind::TextDoesNotFit => None,
         }
     }
 
-    // The text that the fault is about, if it is about one.
+    // The text that the fault is about, or none where no text is read.
     pub fn source(self) -> Option<Source>
         ensures { result ≡ source_of self }
     {
-        match self.layer()? {
-            Layer::Order => Some(Source::Orders),
+        match self {
+            FaultKind::UnlawfulCells | FaultKind::TextDoesNotFit => None,
             _ => Some(Source::Catalogue),
         }
     }

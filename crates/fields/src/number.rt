@@ -1,7 +1,7 @@
 ghost use Rattle.std.specs.Prelude.{◌≡◌, ◌≤◌, IfSome};
 ghost use Rattle.std.specs.Option.{option_map};
 ghost use Rattle.fields.specs.Law.{ReadsDigits};
-ghost use Rattle.fields.specs.Numbers.{digit_first, number_on, number_at, only_number};
+ghost use Rattle.fields.specs.Numbers.{digit_first, number_on, number_at, only_number, whole_number};
 
 // Does the text begin with a digit?
 fn digit_leads(text: &[u8]) -> bool
@@ -63,10 +63,25 @@ pub fn number(text: &[u8], max: u64) -> Option<(u64, &[u8])>
 }
 
 // The number up to `max` that is the whole text.
-pub fn only_number(text: &[u8], max: u64) -> Option<u64>
+pub fn whole_number(text: &[u8], max: u64) -> Option<u64>
     ensures within { IfSome result (λ n. n ≤ max) }
-    ensures value { result ≡ only_number max text.now }
+    ensures value { result ≡ whole_number max text.now }
 {
-    let (n, after) = number(text, max)?;
-    if after.is_empty() { Some(n) } else { None }
+    match number(text, max)? {
+        (n, []) => Some(n),
+        _ => None,
+    }
+}
+
+// The number up to 99,999 that is the whole text.
+pub fn only_number(text: &[u8]) -> Option<u32>
+    ensures within { IfSome result (λ n. n ≤ 99999) }
+    ensures value { result ≡ only_number text.now }
+{
+    let (n, after) = number(text, 99_999)?;
+    if after.is_empty() {
+        Some(n as u32)
+    } else {
+        None
+    }
 }

@@ -1,30 +1,17 @@
 ghost use Rattle.std.specs.Prelude.{◌≡◌, ◌≤◌, length, IfSome};
 ghost use Rattle.std.specs.Option.{option_map};
-ghost use Rattle.fields.specs.Lines.{cut_line};
 ghost use Rattle.fields.specs.Named.{line_place, part, named_bytes, named_place};
 ghost use Rattle.fields.specs.TextLines.{lines, first_line, LinesInTurn, line_at};
 ghost use Rattle.fields.specs.Values.{line_of};
 
 use crate::fault::{Fault, Source};
+use crate::reader::lines::cut;
 
 // A line of a text without its end, and whether it has one.
 #[derive(Clone, Copy)]
 pub struct TextLine<'a> {
     pub bytes: &'a [u8],
     pub ended: bool,
-}
-
-// The bytes before the first line end, and those after it.
-pub(crate) fn cut(text: &[u8]) -> Option<(&[u8], &[u8])>
-    ensures { option_map (λ x. (x.0.now, x.1.now)) result ≡ cut_line text.now }
-{
-    for (i, b) in text.iter().enumerate() {
-        match char::from(*b) {
-            '\n' => return Some((&text[0..i], &text[i + 1..])),
-            _ => {}
-        }
-    }
-    None
 }
 
 // The first line of the text, if it has any bytes, and what follows it.

@@ -5,20 +5,9 @@ ghost use Rattle.std.specs.Prelude.{◌≤◌, length, IfOk};
 use anyhow::anyhow;
 use catalogue::{read, write};
 use fields::fault::{Fault, Layer};
-use fields::text_line::named_line;
-use forms::form::Form;
-use kits::book::{Book, Fit};
-use kits::choices::Choices;
-use kits::label::Label;
-use kits::label_box::LabelBox;
-use kits::slot_number::SlotNumber;
-use rule_books::table_book::TableBook;
-use sheet_run::print_sheet_run;
 use std::fs::File;
 use std::io;
 use std::io::{Read, Write};
-
-mod sheet_run;
 
 // One byte more than a catalogue may have, so that a longer one is seen to be too long.
 const TEXT_ROOM: usize = 65_537;
@@ -45,7 +34,26 @@ fn layer_name(layer: Layer) -> &'static str {
         Layer::Line => "line",
         Layer::Field => "field",
         Layer::Catalogue => "catalogue",
-        Layer::Order => "order",
+    }
+}
+
+// The bytes of a line of the text without its end, also of a last line that has none.
+fn named_line(text: &[u8], line: u32) -> Option<&[u8]> {
+    let mut number = 1u32;
+    let mut start = 0usize;
+    for (i, b) in text.iter().enumerate() {
+        if *b == b'\n' {
+            if number == line {
+                return Some(&text[start..i]);
+            }
+            number = number.saturating_add(1);
+            start = i + 1;
+        }
+    }
+    if number == line && start < text.len() {
+        Some(&text[start..])
+    } else {
+        None
     }
 }
 
@@ -60,7 +68,7 @@ fn print_fault(rt: &HostRuntime, fault: Fault, text: &[u8]) -> io::Result<()> {
         }
         None => println!(rt; "line={line} code={code}")?,
     }
-    if let Some(bytes) = named_line(fault, text, &[]) {
+    if let Some(bytes) = named_line(text, line) {
         let mut out = rt.stdout();
         out.write_all(bytes)?;
         out.write_all(b"\n")?;
@@ -94,48 +102,6 @@ fn print_written(rt: &HostRuntime, cells: &[u16], text: &[u8]) -> io::Result<()>
     }
 }
 
-// A label as the list of its members.
-fn print_label(rt: &HostRuntime, label: Label) -> io::Result<()> {
-    let mut gap = "";
-    print!(rt; " {{")?;
-    for number in 0..16 {
-        if label.has(number) {
-            print!(rt; "{gap}{number}")?;
-            gap = " ";
-        }
-    }
-    print!(rt; "}}")
-}
-
-// The labels of the used slots.
-fn print_box(rt: &HostRuntime, form: &Form, b: &LabelBox) -> io::Result<()> {
-    for i in 0..form.used() {
-        if let Some(slot) = SlotNumber::new(i) {
-            print_label(rt, b.label(slot))?;
-        }
-    }
-    println!(rt; "")
-}
-
-// The opening box without choices, and what each rule narrows it to.
-fn print_narrowing(rt: &HostRuntime, form: &Form, book: &TableBook) -> io::Result<()> {
-    let opening = form.opening(&Choices::none());
-    let volume = opening.volume();
-    print!(rt; "opening box, {volume} fillings:")?;
-    print_box(rt, form, &opening)?;
-    for rule in 0..book.count() {
-        let mut b = opening;
-        match book.narrow(rule, &mut b) {
-            Fit::Fits => {
-                print!(rt; "narrowed by rule {rule}:")?;
-                print_box(rt, form, &b)?;
-            }
-            Fit::Fails => println!(rt; "rule {rule} fails")?,
-        }
-    }
-    Ok(())
-}
-
 fn run(rt: &HostRuntime) -> anyhow::Result<()> {
     let mut buffer = [0u8; TEXT_ROOM];
     let Ok(mut file) = File::open(rt, "catalogue.txt") else {
@@ -150,13 +116,6 @@ fn run(rt: &HostRuntime) -> anyhow::Result<()> {
             let cells = &cells[0..count];
             print_cells(rt, cells)?;
             print_written(rt, cells, text)?;
-            let mut form = Form::fresh();
-            if let Err(fault) = form.take(cells) {
-                print_fault(rt, fault, text)?;
-            }
-            let book = TableBook::new(cells);
-            print_narrowing(rt, &form, &book)?;
-            print_sheet_run(rt, form, book, cells.first().copied().unwrap_or(0))?;
         }
         Err(fault) => print_fault(rt, fault, text)?,
     }

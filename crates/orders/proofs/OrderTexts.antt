@@ -2,14 +2,15 @@
 use Rattle.std.proofs.Common.{◌≡◌, ℕ, ◌+◌, ◌^◌, ◌<◌, ◌≤◌, List, [], ◌∷◌, ◌++◌, map, length, Some, None, codes, decimal, Option, sym, refl, ap, ◌∙◌, arith, length-append}
 use Rattle.std.specs.Option.{option_map}
 use Rattle.std.proofs.lemmas.Fmt.{length-decimal-le}
-use Rattle.fields.specs.Numbers.{number_at, only_number, after_space}
+use Rattle.fields.specs.Numbers.{number_at, whole_number, after_space}
 use Rattle.fields.specs.Texts.{keyed_text}
 use Rattle.fields.specs.TextLines.{Line, first_line, lines, lines_from}
 use Rattle.fields.specs.Words.{value_of}
-use Rattle.fields.proofs.Chains.{and_then_case, or_case, mapped_case}
+use Rattle.fields.proofs.Chains.{and_then_case, mapped_case}
 use Rattle.fields.proofs.LineLists.{lines_in_turn}
-use Rattle.fields.proofs.NumberTexts.{number_reads, number_writes, only_reads, only_writes}
+use Rattle.fields.proofs.NumberTexts.{number_reads, number_writes, whole_reads, whole_writes}
 use Rattle.fields.proofs.Words.{space_reads, value_reads}
+use Rattle.catalogue.proofs.FormLaws.{or_case}
 use Rattle.orders.specs.declared.order.Order.{Order}
 use Rattle.orders.specs.declared.order.Order.TheVariants.{Enter, Withdraw, Rejoin, Fix, Bar, Free, Find}
 use Rattle.orders.specs.Law.{Sayable, Says, ReadsOrders}
@@ -27,8 +28,8 @@ module _ {G : Type 0} (key : List ℕ) (make : ℕ → Order) (t : List ℕ) (o 
   number_case : option_map make (keyed_number key t) ≡ Some o → ((n : ℕ) → t ≡ keyed_text key (decimal n) → n ≤ most → make n ≡ o → G) → G
   number_case h g =
       mapped_case make (keyed_number key t) o h (λ n n-is same.
-      and_then_case (value_of t key) (only_number most) n n-is (λ v v-is h.
-      let r = only_reads most number_fits v n h in
+      and_then_case (value_of t key) (whole_number most) n n-is (λ v v-is h.
+      let r = whole_reads most number_fits v n h in
       g n (value_reads t key v v-is ∙ ap (keyed_text key) r.1) r.0 same))
 
 -- a number and one space
@@ -59,9 +60,9 @@ fix_says : (t : List ℕ) (o : Order) → fix_order t ≡ Some o → Says t o
 fix_says t o h =
     and_then_case (value_of t (codes "fix")) _ o h (λ v v-is h.
     and_then_case (number_then most v) _ o h (λ s s-is h.
-    mapped_case (Fix s.0) (only_number most s.1) o h (λ n n-is same.
+    mapped_case (Fix s.0) (whole_number most s.1) o h (λ n n-is same.
     let a = then_reads most number_fits v s s-is in
-    let b = only_reads most number_fits s.1 n n-is in
+    let b = whole_reads most number_fits s.1 n n-is in
     rw (← same) (record {
       text = value_reads t (codes "fix") v v-is ∙ ap (keyed_text (codes "fix")) (a.1 ∙ ap (λ x. decimal s.0 ++ (32 ∷ x)) b.1);
       numbers = (a.0, b.0);
@@ -72,10 +73,10 @@ rejoin_says t o h =
     and_then_case (value_of t (codes "rejoin")) _ o h (λ v v-is h.
     and_then_case (number_then most v) _ o h (λ m m-is h.
     and_then_case (number_then most_set m.1) _ o h (λ f f-is h.
-    mapped_case (Rejoin m.0 f.0) (only_number most_set f.1) o h (λ n n-is same.
+    mapped_case (Rejoin m.0 f.0) (whole_number most_set f.1) o h (λ n n-is same.
     let a = then_reads most number_fits v m m-is in
     let b = then_reads most_set set_fits m.1 f f-is in
-    let c = only_reads most_set set_fits f.1 n n-is in
+    let c = whole_reads most_set set_fits f.1 n n-is in
     let sets = b.1 ∙ ap (λ x. decimal f.0 ++ (32 ∷ x)) c.1 in
     rw (← same) (record {
       text = value_reads t (codes "rejoin") v v-is ∙ ap (keyed_text (codes "rejoin")) (a.1 ∙ ap (λ x. decimal m.0 ++ (32 ∷ x)) sets);
@@ -89,14 +90,14 @@ reads t o h = or_case (number_order t) _ o h (number_says t o) (λ h. or_case (f
 -- keys differ, so the text of an order is read as no other
 text_reads : (o : Order) → Sayable o → order_of (order_text o) ≡ Some o
 unfolding order_of
-text_reads (Enter r) h = rw (only_writes most number_fits r h)
-text_reads (Withdraw r) h = rw (only_writes most number_fits r h)
+text_reads (Enter r) h = rw (whole_writes most number_fits r h)
+text_reads (Withdraw r) h = rw (whole_writes most number_fits r h)
 text_reads (Rejoin mark force gone) h =
-    rw (then_writes most number_fits mark (decimal force ++ (32 ∷ decimal gone)) h.0, then_writes most_set set_fits force (decimal gone) h.1, only_writes most_set set_fits gone h.2)
-text_reads (Fix s v) h = rw (then_writes most number_fits s (decimal v) h.0, only_writes most number_fits v h.1)
-text_reads (Bar s) h = rw (only_writes most number_fits s h)
-text_reads (Free s) h = rw (only_writes most number_fits s h)
-text_reads (Find b) h = rw (only_writes most number_fits b h)
+    rw (then_writes most number_fits mark (decimal force ++ (32 ∷ decimal gone)) h.0, then_writes most_set set_fits force (decimal gone) h.1, whole_writes most_set set_fits gone h.2)
+text_reads (Fix s v) h = rw (then_writes most number_fits s (decimal v) h.0, whole_writes most number_fits v h.1)
+text_reads (Bar s) h = rw (whole_writes most number_fits s h)
+text_reads (Free s) h = rw (whole_writes most number_fits s h)
+text_reads (Find b) h = rw (whole_writes most number_fits b h)
 
 short_number : (n : ℕ) → n ≤ most → length (decimal n) ≤ 10
 short_number n h = length-decimal-le 10 n (omega arith) (omega arith) (omega arith)

@@ -1,10 +1,11 @@
 -- Orders: the text of each, and what a line reads to.
 use Rattle.std.specs.Prelude.{ℕ, List, ◌∷◌, ◌++◌, codes, decimal, Option}
 use Rattle.std.specs.Option.{option_map}
-use Rattle.fields.specs.Numbers.{number_at, only_number, after_space}
-use Rattle.fields.specs.Results.{and_then, or_else}
+use Rattle.fields.specs.Numbers.{number_at, whole_number, after_space}
+use Rattle.fields.specs.Results.{and_then}
 use Rattle.fields.specs.Texts.{keyed_text}
 use Rattle.fields.specs.Words.{value_of}
+use Rattle.catalogue.specs.Reading.{or_else}
 use Rattle.orders.specs.declared.order.Order.{Order}
 use Rattle.orders.specs.declared.order.Order.TheVariants.{Enter, Withdraw, Rejoin, Fix, Bar, Free, Find}
 
@@ -27,7 +28,7 @@ most_set = 18446744073709551615
 
 -- key=number
 abbrev pub keyed_number : List ℕ → List ℕ → Option ℕ
-keyed_number key t = and_then (value_of t key) (only_number most)
+keyed_number key t = and_then (value_of t key) (whole_number most)
 
 -- the number at the front, and what follows it and one space
 abbrev pub number_then : ℕ → List ℕ → Option (ℕ × List ℕ)
@@ -45,14 +46,14 @@ abbrev pub fix_order : List ℕ → Option Order
 fix_order t =
     and_then (value_of t (codes "fix")) (λ v.
     and_then (number_then most v) (λ s.
-    option_map (Fix s.0) (only_number most s.1)))
+    option_map (Fix s.0) (whole_number most s.1)))
 
 abbrev pub rejoin_order : List ℕ → Option Order
 rejoin_order t =
     and_then (value_of t (codes "rejoin")) (λ v.
     and_then (number_then most v) (λ m.
     and_then (number_then most_set m.1) (λ f.
-    option_map (Rejoin m.0 f.0) (only_number most_set f.1))))
+    option_map (Rejoin m.0 f.0) (whole_number most_set f.1))))
 
 -- the order that a line without its end reads to
 unfoldable pub order_of : List ℕ → Option Order

@@ -6,7 +6,7 @@ ghost use Rattle.orders.specs.OrderLines.{line_order, first_order, OrdersInTurn}
 ghost use Rattle.orders.specs.Orders.{keyed_number, number_then, number_order, fix_order, rejoin_order, order_of};
 
 use crate::order::Order;
-use fields::number::{number, only_number};
+use fields::number::{number, whole_number};
 use fields::numbers::past_space;
 use fields::text_line::{TextLine, first_line};
 use fields::word::past_key;
@@ -19,7 +19,7 @@ const MOST_SET: u64 = 18_446_744_073_709_551_615;
 fn keyed_number(line: &[u8], key: &[u8]) -> Option<u32>
     ensures { result ≡ keyed_number key.now line.now }
 {
-    let n = only_number(past_key(line, key)?, MOST)?;
+    let n = whole_number(past_key(line, key)?, MOST)?;
     Some(n as u32)
 }
 
@@ -37,7 +37,7 @@ fn fix_order(line: &[u8]) -> Option<Order>
     ensures { result ≡ fix_order line.now }
 {
     let (slot, rest) = number_then(past_key(line, b"fix")?, MOST)?;
-    let part = only_number(rest, MOST)?;
+    let part = whole_number(rest, MOST)?;
     Some(Order::Fix {
         slot: slot as u32,
         part: part as u32,
@@ -50,7 +50,7 @@ fn rejoin_order(line: &[u8]) -> Option<Order>
 {
     let (mark, sets) = number_then(past_key(line, b"rejoin")?, MOST)?;
     let (force, rest) = number_then(sets, MOST_SET)?;
-    let gone = only_number(rest, MOST_SET)?;
+    let gone = whole_number(rest, MOST_SET)?;
     Some(Order::Rejoin {
         mark: mark as u32,
         force,

@@ -7,7 +7,7 @@ use Rattle.catalogue.proofs.TheLaw.{reads_what_is_written}
 use Rattle.kits.specs.Boxes.{volume}
 use Rattle.kits.specs.Kits.{Kit, Emptied}
 use Rattle.rule_books.specs.Tables.{table_rules, table_allows}
-use Rattle.practice.specs.Practice.{practice_text, practice_cells, practice_rules, practice_box, filling, all_four, PracticeFacts}
+use Rattle.practice.specs.Practice.{practice_text, practice_cells, practice_rules, practice_box, filling, all_four, PracticeFacts, RuleFacts}
 
 practice_reads : read_into 38 practice_text ≡ Ok practice_cells
 unfolding numbers_up_to
@@ -29,12 +29,16 @@ unfolding ones
 fillings = refl
 
 pub practice_facts : PracticeFacts
-unfolding table_rules
 practice_facts = record {
   bytes = refl;
   cells = refl;
   reads = practice_reads;
   writes = (reads_what_is_written.reads practice_text practice_cells 38 practice_reads).1;
+}
+
+pub rule_facts : RuleFacts
+unfolding table_rules
+rule_facts = record {
   goes = refl;
   goes_not = refl;
   goes_empty = refl;

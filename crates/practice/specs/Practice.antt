@@ -58,6 +58,9 @@ pub record PracticeFacts : Type 0 where
   pub reads : read_into 38 practice_text ≡ Ok practice_cells
   -- and these are written as that text
   pub writes : write_into 212 practice_cells ≡ Ok practice_text
+
+-- what the definitions say of its rules and kits
+pub record RuleFacts : Type 0 where
   -- rule 0: parts 1 and 1 go, 1 and 2 do not, and an empty slot goes with any part
   pub goes : table_allows practice_rules 0 (filling 1 1 0) ≡ true
   pub goes_not : table_allows practice_rules 0 (filling 1 2 0) ≡ false

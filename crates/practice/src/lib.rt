@@ -1,13 +1,14 @@
 #![tactic(auto)]
 
 ghost use Rattle.std.specs.Prelude.{◌≡◌};
-ghost use Rattle.practice.specs.Practice.{practice_cells, PracticeFacts};
+ghost use Rattle.practice.specs.Practice.{practice_cells, PracticeFacts, RuleFacts};
 ghost use Rattle.practice.specs.Run.{PracticeRun};
 
 // The cells of the practice catalogue.
 pub fn practice_cells() -> [u16; 38]
     ensures value { result ≡ practice_cells }
     ensures facts { PracticeFacts }
+    ensures rules { RuleFacts }
     ensures run { PracticeRun }
 {
     [

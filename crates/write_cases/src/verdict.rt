@@ -57,7 +57,6 @@ fn layer_name(layer: Option<Layer>) -> &'static str {
         Some(Layer::Line) => "line",
         Some(Layer::Field) => "field",
         Some(Layer::Catalogue) => "catalogue",
-        Some(Layer::Order) => "order",
         None => "none",
     }
 }

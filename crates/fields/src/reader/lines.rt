@@ -1,12 +1,25 @@
 ghost use Rattle.std.specs.Prelude.{◌≡◌, ◌+◌, ◌<◌, true, length, is_err, IfOk};
+ghost use Rattle.std.specs.Option.{option_map};
 ghost use Rattle.fields.specs.Results.{mapped_ok, ok_or, beside};
 ghost use Rattle.fields.specs.Values.{place_of};
-ghost use Rattle.fields.specs.Lines.{position, begun, next_line, keyed_line};
+ghost use Rattle.fields.specs.Lines.{cut_line, position, begun, next_line, keyed_line};
 
 use super::Reader;
 use crate::fault::{Fault, FaultKind};
-use crate::text_line::cut;
 use crate::word::past_key;
+
+// The bytes before the first line end, and those after it.
+pub(crate) fn cut(text: &[u8]) -> Option<(&[u8], &[u8])>
+    ensures { option_map (λ x. (x.0.now, x.1.now)) result ≡ cut_line text.now }
+{
+    for (i, b) in text.iter().enumerate() {
+        match char::from(*b) {
+            '\n' => return Some((&text[0..i], &text[i + 1..])),
+            _ => {}
+        }
+    }
+    None
+}
 
 impl<'a> Reader<'a> {
     // Goes to the start of a text, unless that is too long to be read.

@@ -1,4 +1,4 @@
-ghost use Rattle.std.specs.Prelude.{◌≡◌, if◌then◌else◌, Some, None, slice_index, slice_set};
+ghost use Rattle.std.specs.Prelude.{◌≡◌, if◌then◌else◌, replicate, Some, None, slice_index, slice_set};
 ghost use Rattle.std.specs.Option.{option_map};
 ghost use Rattle.kits.specs.Boxes.{all_some};
 
@@ -7,6 +7,15 @@ use crate::label::Label;
 use crate::slot_number::SlotNumber;
 
 impl LabelBox {
+    // The box with that label in each slot.
+    pub fn whole(label: Label) -> LabelBox
+        ensures { result.labels ≡ replicate 24 label.bits }
+    {
+        LabelBox {
+            labels: [label.bits(); 24],
+        }
+    }
+
     // The box of these labels, if each has a member.
     pub fn new(labels: [u16; 24]) -> Option<LabelBox>
         ensures { option_map (λ b. b.labels) result ≡ (if all_some labels then Some labels else None) }

@@ -7,7 +7,7 @@ use Rattle.rule_books.specs.Narrowing.{no_row_with}
 use Rattle.rule_books.specs.SomeLaws.{below_yes, below_none, below_more}
 use Rattle.rule_books.proofs.FoundLaws.{no_row_more, no_row_next, no_row_end}
 use Rattle.rule_books.proofs.narrowing.choices.+no_row_after.Goals as goal
-use Rattle.rule_books.proofs.narrowing.choices.+no_row_after.Goals.{then-has+else-no-row-after, else-has}
+use Rattle.rule_books.proofs.narrowing.choices.+no_row_after.Goals.{then-has+else-no_row_after, else-has}
 
 pub loop-v-init : goal.loop-v-init
 loop-v-init t c = (search rules, refl, below_none _)

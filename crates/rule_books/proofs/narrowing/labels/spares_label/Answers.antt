@@ -10,7 +10,7 @@ use Rattle.rule_books.specs.Narrowing.{is_spared}
 use Rattle.rule_books.proofs.ArrayLaws.{take_set_within}
 use Rattle.rule_books.proofs.FoundLaws.{found_all, found_spared, label_with, label_without, spared_first, spared_alone}
 use Rattle.rule_books.proofs.narrowing.labels.spares_label.Goals as goal
-use Rattle.rule_books.proofs.narrowing.labels.spares_label.Goals.{then-has+then-some-no-row, then-has+else-some-no-row, else-has}
+use Rattle.rule_books.proofs.narrowing.labels.spares_label.Goals.{then-has+then-some_no_row, then-has+else-some_no_row, else-has}
 
 pub loop-v-init : goal.loop-v-init
 loop-v-init c = (
