@@ -1,6 +1,6 @@
 -- What is lawful, part by part, and the bounds that it sets.
 use Rattle.std.proofs.Common.{◌≡◌, ℕ, zero, suc, ◌≤◌, Bool, true, ◌&&◌, ltb, leb, List, [], ◌∷◌, map, length, refl, arith}
-use Rattle.std.specs.List.{AllByRecursion as All}
+use Rattle.std.specs.List.{AllByRecursion}
 use Rattle.std.proofs.lemmas.Bool.{and_parts, ltb-true, false≢true}
 use Rattle.std.proofs.lemmas.Bool.Decides.{nat_tests}
 use Rattle.catalogue.specs.declared.model.Kind.{Kind}
@@ -54,7 +54,7 @@ pub lawful_from : (c : Catalogue) → Parts c → lawful c ≡ true
 lawful_from c p = grind arith
 
 -- a test that holds of each element
-pub all_means : {X : Type 0} {P : X → Type 0} (p : X → Bool) → ((x : X) → p x ≡ true → P x) → (xs : List X) → all p xs ≡ true → All P xs
+pub all_means : {X : Type 0} {P : X → Type 0} (p : X → Bool) → ((x : X) → p x ≡ true → P x) → (xs : List X) → all p xs ≡ true → AllByRecursion P xs
 all_means p f [] h = tt
 all_means p f (x ∷ xs) h = let e = and_parts (p x) (all p xs) h in (f x e.0, all_means p f xs e.1)
 
@@ -71,11 +71,11 @@ offered_few [] h n = omega arith
 offered_few (s ∷ slots) h zero = (within 1 15 s.parts (and_parts (slot_lawful s) (all slot_lawful slots) h).0).1
 offered_few (s ∷ slots) h (suc n) = offered_few slots (and_parts (slot_lawful s) (all slot_lawful slots) h).1 n
 
-pub limits_few : (slots : List Slot) → all slot_lawful slots ≡ true → (ns : List ℕ) → All (λ p. p ≤ 15) (map (offered slots) ns)
+pub limits_few : (slots : List Slot) → all slot_lawful slots ≡ true → (ns : List ℕ) → AllByRecursion (λ p. p ≤ 15) (map (offered slots) ns)
 limits_few slots h [] = tt
 limits_few slots h (n ∷ ns) = (offered_few slots h n, limits_few slots h ns)
 
-pub row_few : (limits row : List ℕ) → All (λ p. p ≤ 15) limits → row_lawful limits row ≡ true → All (λ n. n ≤ 15) row × (length row ≡ length limits)
+pub row_few : (limits row : List ℕ) → AllByRecursion (λ p. p ≤ 15) limits → row_lawful limits row ≡ true → AllByRecursion (λ n. n ≤ 15) row × (length row ≡ length limits)
 row_few [] [] a h = (tt, refl)
 row_few [] (v ∷ row) a h = absurd (false≢true h)
 row_few (p ∷ limits) [] a h = absurd (false≢true h)

@@ -1,6 +1,6 @@
 -- Lines in turn: what is read is what was written.
 use Rattle.std.proofs.Common.{◌≡◌, ℕ, zero, suc, ◌+◌, ◌≤◌, Bool, true, false, ◌&&◌, ltb, leb, List, [], ◌∷◌, length, Ok, codes, Option, Result, sym, refl, ap, ◌∙◌, arith, length-append}
-use Rattle.std.specs.List.{AllByRecursion as All}
+use Rattle.std.specs.List.{AllByRecursion}
 use Rattle.std.proofs.ByRecursion.{All-weaker}
 use Rattle.std.proofs.lemmas.Bool.{and_parts, and_from, ltb-true, le-leb}
 use Rattle.fields.specs.declared.fault.Fault.{Fault}
@@ -141,7 +141,7 @@ of_step used small kind = record {
       (k + 1, rw (formed_writes numbers_form (codes "of") refl (omega arith) ns fits rest k, parts.below, parts.rises, parts.without));
 }
 
-pub row_step : (limits : List ℕ) → 1 ≤ length limits → length limits ≤ 4 → All (λ p. p ≤ 15) limits
+pub row_step : (limits : List ℕ) → 1 ≤ length limits → length limits ≤ 4 → AllByRecursion (λ p. p ≤ 15) limits
     → Step (row_line limits) (λ row rest. line (list_text (codes "row") row) rest) (row_lawful limits)
 row_step limits some few small =
     asked_step (row_form (length limits)) (codes "row") refl (omega arith) OutOfRange (row_lawful limits)

@@ -1,6 +1,6 @@
 -- What the calls that read a text answer, from what was read and kept.
 use Rattle.std.proofs.Common.{◌≡◌, ℕ, suc, ◌+◌, ◌-◌, ◌<◌, ◌≤◌, ◌⊎◌, List, [], ◌∷◌, ◌++◌, length, take, drop, set, Ok, Err, Result, sym, refl, ap, ◌∙◌, append_assoc, append-nil, add-zero, zero-add, arith, length-set, length-take}
-use Rattle.std.specs.List.{AllByRecursion as All}
+use Rattle.std.specs.List.{AllByRecursion}
 use Rattle.std.proofs.lemmas.List.{take_more_set}
 use Rattle.std.proofs.lemmas.Bool.Decides.{nat_tests}
 use Rattle.fields.specs.declared.fault.Fault.{Fault}
@@ -49,7 +49,7 @@ module _ (t out out' : List ℕ) (n : ℕ) (e : Ok (n, out') ≡ mapped_ok (kept
     pub counted_cells : n ≤ 8192 → n ≤ room → mapped_ok length (read_into room t) ≡ Ok n
     counted_cells few fits = read_case (λ c is count cells. rw (is, ← count) (grind (arith, nat_tests)))
 
-    read_cells : n ≤ 8192 → n ≤ room → n ≤ length out → (read_into room t ≡ Ok (take n out')) × All Small (take n out')
+    read_cells : n ≤ 8192 → n ≤ room → n ≤ length out → (read_into room t ≡ Ok (take n out')) × AllByRecursion Small (take n out')
     read_cells few fits long =
         read_case (λ c is count cells.
         let front : take n out' ≡ cells_of c = rw (cells, count, ← zero-add (length (cells_of c))) (over_front out 0 (cells_of c) (omega (arith, count))) in
@@ -61,7 +61,7 @@ module _ (t out out' : List ℕ) (n : ℕ) (e : Ok (n, out') ≡ mapped_ok (kept
     same_part : n - 0 ≡ n
     same_part = omega arith
 
-    pub part_fits : (length (take (n - 0) out') ≤ length old) × All Small (take (n - 0) out')
+    pub part_fits : (length (take (n - 0) out') ≤ length old) × AllByRecursion Small (take (n - 0) out')
     part_fits = rw same_part (simp length-take (omega arith), (read_cells (length old) few fits long).1)
 
     pub laid_cells : (new : List ℕ) → new ≡ take (n - 0) out' ++ drop (length (take (n - 0) out')) old

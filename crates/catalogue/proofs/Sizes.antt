@@ -1,7 +1,7 @@
 -- How long the text of a lawful catalogue is, and how many cells a lawful rule has.
 use Rattle.std.proofs.Common.{◌≡◌, ℕ, ◌+◌, ◌*◌, ◌^◌, ◌<◌, ◌≤◌, Bool, true, false, ltb, List, [], ◌∷◌, map, length, codes, decimal, refl, mul-le-mul, arith, length-append}
 use lib.ListN.{length-map}
-use Rattle.std.specs.List.{flat_map, AllByRecursion as All}
+use Rattle.std.specs.List.{flat_map, AllByRecursion}
 use Rattle.std.proofs.lemmas.Fmt.{length-decimal-le}
 use Rattle.std.proofs.ByRecursion.{All-weaker}
 use Rattle.std.proofs.lemmas.Bool.{and_parts, ltb-true}
@@ -33,7 +33,7 @@ two_digits n h = length-decimal-le 2 n (omega arith) h (omega arith)
 
 -- numbers of at most two digits
 abbrev Small : List ℕ → Type 0
-Small ns = All (λ n. n < 100) ns
+Small ns = AllByRecursion (λ n. n < 100) ns
 
 spaced_short : (ns : List ℕ) → Small ns → length (spaced_text ns) ≤ 3 * length ns
 spaced_short [] h = omega arith

@@ -1,6 +1,6 @@
 -- Each cell of a lawful catalogue has 16 bits.
 use Rattle.std.proofs.Common.{◌≡◌, ℕ, ◌^◌, ◌<◌, ◌≤◌, Bool, true, false, ltb, List, [], ◌∷◌, map, length, arith}
-use Rattle.std.specs.List.{flat_map, AllByRecursion as All}
+use Rattle.std.specs.List.{flat_map, AllByRecursion}
 use Rattle.std.proofs.ByRecursion.{All-append, All-map, All-weaker}
 use Rattle.std.proofs.lemmas.Bool.{and_parts, leb-true, ltb-true}
 use Rattle.catalogue.specs.declared.model.Kind.{Kind}
@@ -14,7 +14,7 @@ use Rattle.catalogue.proofs.LawfulParts.{of_parts, rule_parts, lawful_parts, all
 abbrev pub Small : ℕ → Type 0
 Small n = n < 2 ^ 16
 
-all_joined : {T : Type 0} (P : ℕ → Type 0) (good : T → Bool) (f : T → List ℕ) → ((x : T) → good x ≡ true → All P (f x)) → (xs : List T) → all good xs ≡ true → All P (flat_map f xs)
+all_joined : {T : Type 0} (P : ℕ → Type 0) (good : T → Bool) (f : T → List ℕ) → ((x : T) → good x ≡ true → AllByRecursion P (f x)) → (xs : List T) → all good xs ≡ true → AllByRecursion P (flat_map f xs)
 all_joined P good f each [] h = tt
 all_joined P good f each (x ∷ xs) h =
     let e = and_parts (good x) (all good xs) h in
@@ -32,7 +32,7 @@ kind_small Goes = omega arith
 kind_small (Needs t) = omega arith
 kind_small (Bars t) = omega arith
 
-rule_small : (slots : List Slot) → length slots ≤ 24 → all slot_lawful slots ≡ true → (r : Rule) → rule_lawful slots r ≡ true → All Small (rule_cells r)
+rule_small : (slots : List Slot) → length slots ≤ 24 → all slot_lawful slots ≡ true → (r : Rule) → rule_lawful slots r ≡ true → AllByRecursion Small (rule_cells r)
 rule_small slots few good r h =
     let parts = rule_parts slots r h in
     let of = of_parts (length slots) r.kind r.slots parts.of in
@@ -52,7 +52,7 @@ rule_small slots few good r h =
       ),
     )
 
-pub cells_small : (c : Catalogue) → lawful c ≡ true → All Small (cells_of c)
+pub cells_small : (c : Catalogue) → lawful c ≡ true → AllByRecursion Small (cells_of c)
 cells_small c h =
     let parts = lawful_parts c h in
     let few = (within 1 24 (length c.slots) parts.used).1 in (

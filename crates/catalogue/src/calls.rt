@@ -1,5 +1,5 @@
 ghost use Rattle.std.specs.Prelude.{◌≡◌, ◌^◌, ◌<◌, ◌≤◌, ◌++◌, length, drop, IfOk};
-ghost use Rattle.std.specs.List.{AllByRecursion as All};
+ghost use Rattle.std.specs.List.{AllByRecursion};
 ghost use Rattle.fields.specs.Results.{mapped_ok};
 ghost use Rattle.catalogue.specs.Law.{ReadsWhatIsWritten};
 ghost use Rattle.catalogue.specs.Outcomes.{read_into, write_into, laid};
@@ -16,7 +16,7 @@ const MOST_BYTES: usize = 65_536;
 
 // Numbers of 16 bits laid over the front of the cells.
 fn lay(cells: &mut [u16], numbers: &[u32])
-    requires { (length numbers.now ≤ length cells.old) × (All (λ n. n < 2 ^ 16) numbers.now) }
+    requires { (length numbers.now ≤ length cells.old) × (AllByRecursion (λ n. n < 2 ^ 16) numbers.now) }
     ensures { cells.new ≡ numbers.now ++ drop (length numbers.now) cells.old }
 {
     for (i, n) in numbers.iter().enumerate() {

@@ -1,6 +1,6 @@
 -- Lines of a text: what is read is what was written.
 use Rattle.std.proofs.Common.{◌≡◌, ℕ, ◌+◌, ◌*◌, ◌^◌, ◌<◌, ◌≤◌, Bool, true, not, ◌&&◌, eqb, leb, List, [], ◌∷◌, ◌++◌, length, Some, Ok, decimal, refl, arith, length-append}
-use Rattle.std.specs.List.{AllByRecursion as All}
+use Rattle.std.specs.List.{AllByRecursion}
 use Rattle.std.proofs.lemmas.Fmt.{decimal_by_steps, length-decimal-le}
 use Rattle.std.proofs.lemmas.Bool.{and_parts, and_from, le-leb, not-true}
 use Rattle.std.proofs.lemmas.Bool.Decides.{nat_tests}
@@ -42,20 +42,20 @@ no_end_append (c ∷ a) b h k = let p = and_parts (not (eqb c 10)) (no_end a) h 
 pub no_end_decimal : (n : ℕ) → n < 2 ^ 64 → no_end (decimal n) ≡ true
 no_end_decimal = decimal_by_steps (λ n ds. no_end ds ≡ true) (λ n h. grind (arith, nat_tests)) (λ n ds h k. no_end_append ds _ k (grind (arith, nat_tests)))
 
-no_end_spaced : (ns : List ℕ) → All (λ n. n ≤ 99999) ns → no_end (spaced_text ns) ≡ true
+no_end_spaced : (ns : List ℕ) → AllByRecursion (λ n. n ≤ 99999) ns → no_end (spaced_text ns) ≡ true
 no_end_spaced [] h = refl
 no_end_spaced (n ∷ ns) h = no_end_append (decimal n) (spaced_text ns) (no_end_decimal n (omega arith)) (no_end_spaced ns h.1)
 
-pub no_end_numbers : (ns : List ℕ) → All (λ n. n ≤ 99999) ns → no_end (numbers_text ns) ≡ true
+pub no_end_numbers : (ns : List ℕ) → AllByRecursion (λ n. n ≤ 99999) ns → no_end (numbers_text ns) ≡ true
 no_end_numbers [] h = refl
 no_end_numbers (n ∷ ns) h = no_end_spaced (n ∷ ns) h
 
-length_spaced_le : (ns : List ℕ) → All (λ n. n ≤ 99999) ns → length (spaced_text ns) ≤ 6 * length ns
+length_spaced_le : (ns : List ℕ) → AllByRecursion (λ n. n ≤ 99999) ns → length (spaced_text ns) ≤ 6 * length ns
 length_spaced_le [] h = omega arith
 length_spaced_le (n ∷ ns) h =
     simp length-append (omega (arith, length-decimal-le 5 n (omega arith) (omega arith) (omega arith), length_spaced_le ns h.1))
 
-pub length_numbers_le : (ns : List ℕ) → All (λ n. n ≤ 99999) ns → length (numbers_text ns) ≤ 6 * length ns
+pub length_numbers_le : (ns : List ℕ) → AllByRecursion (λ n. n ≤ 99999) ns → length (numbers_text ns) ≤ 6 * length ns
 length_numbers_le [] h = omega arith
 length_numbers_le (n ∷ ns) h = omega (arith, length_spaced_le (n ∷ ns) h)
 

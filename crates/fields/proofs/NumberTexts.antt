@@ -1,6 +1,6 @@
 -- Numbers of a line: what is read is what was written.
 use Rattle.std.proofs.Common.{◌≡◌, ℕ, zero, suc, ◌^◌, ◌<◌, ◌≤◌, false, eqb, List, [], ◌∷◌, ◌++◌, length, Some, None, decimal, Option, sym, refl, ap, ◌∙◌, append-nil, arith}
-use Rattle.std.specs.List.{AllByRecursion as All}
+use Rattle.std.specs.List.{AllByRecursion}
 use Rattle.std.proofs.lemmas.List.{nil_from_length}
 use Rattle.std.proofs.lemmas.Bool.{eqb-true, ne_eqb}
 use Rattle.fields.specs.Law.{Written}
@@ -43,7 +43,7 @@ led_case xs ns (Some ms) h g = g ms refl (cc)
 
 -- numbers of 1 to 5 digits, at least one and at most m
 abbrev pub Few : ℕ → List ℕ → Type 0
-Few m ns = (1 ≤ length ns) × (length ns ≤ m) × All (λ n. n ≤ 99999) ns
+Few m ns = (1 ≤ length ns) × (length ns ≤ m) × AllByRecursion (λ n. n ≤ 99999) ns
 
 pub numbers_read : (m : ℕ) (t ns : List ℕ) → numbers_up_to m t ≡ Some ns → Few m ns × (t ≡ numbers_text ns)
 unfolding numbers_up_to

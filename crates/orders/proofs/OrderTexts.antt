@@ -1,10 +1,10 @@
 -- Orders: what is read is what was written.
-use Rattle.std.proofs.Common.{◌≡◌, ℕ, ◌+◌, ◌^◌, ◌<◌, ◌≤◌, List, [], ◌∷◌, ◌++◌, map, length, Some, None, codes, decimal, Option, sym, refl, ap, ◌∙◌, arith, length-append}
+use Rattle.std.proofs.Common.{◌≡◌, ℕ, ◌^◌, ◌<◌, ◌≤◌, List, ◌∷◌, ◌++◌, map, length, Some, None, codes, decimal, Option, refl, ap, ◌∙◌, arith, length-append}
 use Rattle.std.specs.Option.{option_map}
 use Rattle.std.proofs.lemmas.Fmt.{length-decimal-le}
 use Rattle.fields.specs.Numbers.{number_at, whole_number, after_space}
 use Rattle.fields.specs.Texts.{keyed_text}
-use Rattle.fields.specs.TextLines.{Line, first_line, lines, lines_from}
+use Rattle.fields.specs.TextLines.{Line, first_line, lines_from}
 use Rattle.fields.specs.Words.{value_of}
 use Rattle.fields.proofs.Chains.{and_then_case, mapped_case}
 use Rattle.fields.proofs.LineLists.{lines_in_turn}
@@ -14,7 +14,7 @@ use Rattle.catalogue.proofs.FormLaws.{or_case}
 use Rattle.orders.specs.declared.order.Order.{Order}
 use Rattle.orders.specs.declared.order.Order.TheVariants.{Enter, Withdraw, Rejoin, Fix, Bar, Free, Find}
 use Rattle.orders.specs.Law.{Sayable, Says, ReadsOrders}
-use Rattle.orders.specs.OrderLines.{line_order, orders, first_order, orders_from, OrdersInTurn}
+use Rattle.orders.specs.OrderLines.{line_order, orders_from, OrdersInTurn}
 use Rattle.orders.specs.Orders.{order_text, most, most_set, keyed_number, number_then, number_order, fix_order, rejoin_order, order_of}
 
 number_fits : most < 2 ^ 64

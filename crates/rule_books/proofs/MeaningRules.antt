@@ -1,7 +1,7 @@
 -- A rule allows a filling exactly if the filling's assignment satisfies the rule's constraint.
 use Rattle.std.proofs.Common.{◌≡◌, ℕ, zero, suc, ◌<◌, Bool, true, false, ◌||◌, eqb, List, [], ◌∷◌, ◌++◌, map, get_or, take, drop, Some, unwrap_or, sym, refl, ap, ◌∙◌, ap₂, ⊎_elim, arith}
 use Rattle.std.proofs.lemmas.Bool.{both_ways, cases_Bool, ne_eqb, not-true, not-false, not_from_true, not_from_false, or_parts, or_from, true≢false}
-use Rattle.std.specs.List.{AllZip, AllByRecursion as All}
+use Rattle.std.specs.List.{AllZip, AllByRecursion}
 use Rattle.catalogue.specs.Catalogues.{Rule}
 use Rattle.catalogue.specs.declared.model.Kind.{Kind}
 use Rattle.catalogue.specs.declared.model.Kind.TheVariants.{Goes, Needs, Bars}
@@ -14,7 +14,7 @@ use Rattle.rule_books.specs.Tables.{table_allows}
 
 -- the constraint of each rule is satisfied
 abbrev pub Satisfied : Assignment → List Rule → Type 0
-Satisfied S rules = All (Satisfies S) (map rule_constraint rules)
+Satisfied S rules = AllByRecursion (Satisfies S) (map rule_constraint rules)
 
 pub value_number : (n : ℕ) → unwrap_or (slot_value n) 0 ≡ n
 value_number zero = refl
@@ -46,7 +46,7 @@ module _ (f : List ℕ) where
   Values xs vs = AllZip (λ x v. assigned f x ≡ Some v) xs vs
 
   abbrev AllActive : List ℕ → Type 0
-  AllActive xs = All (Active (assigned f)) xs
+  AllActive xs = AllByRecursion (Active (assigned f)) xs
 
   pub value_is : (x v : ℕ) → assigned f x ≡ Some v → get_or f x 0 ≡ v
   value_is x v e = sym (value_number (get_or f x 0)) ∙ ap (λ o. unwrap_or o 0) e

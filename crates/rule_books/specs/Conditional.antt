@@ -1,6 +1,6 @@
 -- Conditional constraint satisfaction problems: a variable may be active, with a value, or inactive.
 use Rattle.std.specs.Prelude.{◌≡◌, ℕ, ◌<◌, Bool, true, List, Some, Option}
-use Rattle.std.specs.List.{AllZip, AllByRecursion as All}
+use Rattle.std.specs.List.{AllZip, AllByRecursion}
 
 -- a relation: which combinations of values it permits to some variables
 pub record Relation : Type 0 where
@@ -30,7 +30,7 @@ Active S x = (v : ℕ) × (S x ≡ Some v)
 
 -- a relation is relevant exactly if all its variables are active
 abbrev pub Relevant : Assignment → Relation → Type 0
-Relevant S R = All (Active S) R.variables
+Relevant S R = AllByRecursion (Active S) R.variables
 
 -- a relation holds exactly if all its variables are active and it permits their values
 abbrev pub Holds : Assignment → Relation → Type 0
@@ -45,7 +45,7 @@ Satisfies S (excludes R x) = Holds S R → Active S x → ⊥
 pub record Solution (P : Problem) (S : Assignment) : Type 0 where
   pub values : (x v : ℕ) → S x ≡ Some v → (x < P.variables) × P.domain x v
   pub initials : (x : ℕ) → x < P.variables → P.initial x → Active S x
-  pub constraints : All (Satisfies S) P.constraints
+  pub constraints : AllByRecursion (Satisfies S) P.constraints
 
 -- each variable with its value in S has this value in T
 abbrev pub Subset : Assignment → Assignment → Type 0

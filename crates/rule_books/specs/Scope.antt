@@ -1,5 +1,5 @@
 -- Some slots of a box.
-use Rattle.std.specs.Prelude.{◌≡◌, ℕ, ◌<◌, List, [], ◌∷◌, length, ◌≢◌, slice_index, slice_set}
+use Rattle.std.specs.Prelude.{ℕ, ◌<◌, List, [], ◌∷◌, length, ◌≢◌, slice_index, slice_set}
 
 -- labels put into slots
 abbrev pub put_at : List ℕ → List ℕ → List ℕ → List ℕ

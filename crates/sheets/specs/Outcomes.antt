@@ -1,5 +1,5 @@
 -- What each call answers, and what it makes of what a sheet holds.
-use Rattle.std.specs.Prelude.{ℕ, ◌^◌, List, length, set, replicate, is_some, Some, None, Ok, Err, Option, Result, ◌==◌, bit_and, bit_or, bit_xor, nat_lt, slice_set}
+use Rattle.std.specs.Prelude.{ℕ, ◌^◌, List, length, replicate, is_some, Some, None, Ok, Err, Option, Result, ◌==◌, bit_and, bit_or, bit_xor, nat_lt, slice_set}
 use Rattle.std.specs.List.{slice_get}
 use Rattle.catalogue.specs.declared.model.Slot.{Slot}
 use Rattle.forms.specs.Forms.{standard_at}

@@ -58,8 +58,8 @@ impl Search {
 
     // Makes steps until the search has ended or the budget is made, and answers how many.
     pub(crate) fn work<B: Book>(&mut self, book: &B, rules: u64, budget: u32) -> u32
-        ensures value { result ≡ made (narrowed book.now) (members rules) budget (state_of self.old) }
-        ensures after { state_of self.new ≡ run (narrowed book.now) (members rules) budget (state_of self.old) }
+        ensures value { result ≡ made (B.narrowed book.now) (members rules) budget (state_of self.old) }
+        ensures after { state_of self.new ≡ run (B.narrowed book.now) (members rules) budget (state_of self.old) }
         ensures law { SearchRight }
     {
         let mut steps = 0;

@@ -8,7 +8,7 @@ use kits::label_box::LabelBox;
 
 // The box narrowed by each rule of the set in rising number, or none where one fails.
 pub(crate) fn narrow_by_all<B: Book>(book: &B, rules: u64, b: LabelBox) -> Option<LabelBox>
-    ensures { option_map (λ c. c.labels) result ≡ narrowed_by_all (narrowed book.now) (members rules) b.labels }
+    ensures { option_map (λ c. c.labels) result ≡ narrowed_by_all (B.narrowed book.now) (members rules) b.labels }
 {
     let mut narrowed = b;
     let mut left = rules;

@@ -61,7 +61,7 @@ impl Search {
     // One step of a search that has not ended.
     pub(crate) fn step<B: Book>(&mut self, book: &B, rules: u64)
         requires { self.old.end ≡ Paused }
-        ensures { state_of self.new ≡ stepped (narrowed book.now) (members rules) (state_of self.old).boxes }
+        ensures { state_of self.new ≡ stepped (B.narrowed book.now) (members rules) (state_of self.old).boxes }
     {
         if let Some(first) = self.take_first() {
             let narrowed = narrow_by_all(book, rules, first);

@@ -13,9 +13,9 @@ use kits::book::Book;
 impl<B: Book> Sheet<B> {
     // Begin, one work and close.
     pub fn find(&mut self, budget: u32) -> Result<(End, u32), Refusal>
-        ensures outcome { (work_result result, whole self.new) ≡ on_sheet (find_outcome (used_slots self.old.form) (narrowed self.old.book) budget (contents_of self.old.state)) self.old }
-        ensures history { (h : History) → HasHistory rules allows narrowed self.old h → HasHistory rules allows narrowed self.new (find_history h budget (is_some (contents_of self.old.state).search) (work_result result)) }
-        ensures law { KeepsLaw rules allows narrowed self.new }
+        ensures outcome { (work_result result, whole self.new) ≡ on_sheet (find_outcome (used_slots self.old.form) (B.narrowed self.old.book) budget (contents_of self.old.state)) self.old }
+        ensures history { (h : History) → HasHistory B.rules B.allows B.narrowed self.old h → HasHistory B.rules B.allows B.narrowed self.new (find_history h budget (is_some (contents_of self.old.state).search) (work_result result)) }
+        ensures law { KeepsLaw B.rules B.allows B.narrowed self.new }
     {
         match self.begin() {
             Err(refusal) => Err(refusal),

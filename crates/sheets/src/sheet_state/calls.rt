@@ -171,7 +171,7 @@ impl SheetState {
     }
 
     pub(crate) fn work<B: Book>(&mut self, book: &B, budget: u32) -> Result<(End, u32), Refusal>
-        ensures { (work_result result, contents_of self.new) ≡ worked (narrowed book.now) budget (contents_of self.old) }
+        ensures { (work_result result, contents_of self.new) ≡ worked (B.narrowed book.now) budget (contents_of self.old) }
     {
         match self.search.take() {
             Some(mut search) => {
