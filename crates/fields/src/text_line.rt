@@ -1,6 +1,6 @@
 ghost use Rattle.std.specs.Prelude.{◌≡◌, ◌≤◌, length, IfSome};
 ghost use Rattle.std.specs.Option.{option_map};
-ghost use Rattle.fields.specs.Named.{line_place, part, named_bytes, named_place};
+ghost use Rattle.fields.specs.Named.{of_source, line_place, part, named_bytes, named_place};
 ghost use Rattle.fields.specs.TextLines.{lines, first_line, LinesInTurn, line_at};
 ghost use Rattle.fields.specs.Values.{line_of};
 
@@ -54,15 +54,23 @@ fn line_place(text: &[u8], line: u32) -> Option<(usize, usize)>
     Some((from, from + first.bytes.len()))
 }
 
+// The text that a fault of this source is about.
+fn text_of<'a>(source: Source, catalogue: &'a [u8], orders: &'a [u8]) -> &'a [u8]
+    ensures place { result.ref_ptr ≡ of_source source catalogue.entry.ref_ptr orders.entry.ref_ptr }
+    ensures bytes { result.now ≡ of_source source catalogue.now orders.now }
+{
+    match source {
+        Source::Catalogue => catalogue,
+        Source::Orders => orders,
+    }
+}
+
 // The bytes of the line that a fault names, out of the text that the fault is about.
 pub fn named_line<'a>(fault: Fault, catalogue: &'a [u8], orders: &'a [u8]) -> Option<&'a [u8]>
     ensures place { option_map (λ x. x.ref_ptr) result ≡ named_place fault catalogue.entry orders.entry }
     ensures bytes { option_map (λ x. x.now) result ≡ named_bytes fault catalogue.now orders.now }
 {
-    let text = match fault.kind.source()? {
-        Source::Catalogue => catalogue,
-        Source::Orders => orders,
-    };
+    let text = text_of(fault.kind.source()?, catalogue, orders);
     let (from, to) = line_place(text, fault.line)?;
     Some(&text[from..to])
 }
