@@ -10,7 +10,7 @@ use Rattle.fields.specs.Texts.{numbers_text}
 use Rattle.fields.specs.Words.{after_word}
 use Rattle.fields.proofs.Chains.{and_then_case, mapped_case, cond_case, cond_some}
 use Rattle.fields.proofs.LineTexts.{no_end, no_end_append, no_end_decimal, no_end_numbers, length_numbers_le}
-use Rattle.fields.proofs.NumberTexts.{five, number_reads, number_writes, whole_reads, whole_writes, Few, numbers_read, numbers_write}
+use Rattle.fields.proofs.NumberTexts.{five, number_reads, number_writes, only_reads, only_writes, Few, numbers_read, numbers_write}
 use Rattle.fields.proofs.Words.{word_reads, space_reads}
 use Rattle.catalogue.specs.declared.model.Kind.{Kind}
 use Rattle.catalogue.specs.declared.model.Kind.TheVariants.{Goes, Needs, Bars}
@@ -31,8 +31,8 @@ short_decimal n h = length-decimal-le 5 n (omega arith) (omega arith) (omega ari
 
 pub number_form : Form only_number decimal (λ n. n ≤ 99999)
 number_form = record {
-  reads = whole_reads 99999 five;
-  writes = whole_writes 99999 five;
+  reads = only_reads;
+  writes = only_writes;
   clean = λ n h. no_end_decimal n (omega arith);
   short = λ n h. omega (arith, short_decimal n h);
 }
@@ -100,7 +100,7 @@ word_number_reads : (w t : List ℕ) (n : ℕ) → word_number w t ≡ Some n �
 word_number_reads w t n h =
     and_then_case (after_word t w) _ n h (λ d d-is h.
     and_then_case (after_space d) _ n h (λ u u-is h.
-    let r = whole_reads 99999 five u n h in
+    let r = only_reads u n h in
     (r.0, word_reads t w d d-is ∙ ap (λ l. w ++ l) (space_reads d u u-is ∙ ap (λ l. 32 ∷ l) r.1))))
 
 pub or_case : {T G : Type 0} (a b : Option T) (y : T) → or_else a b ≡ Some y → (a ≡ Some y → G) → (b ≡ Some y → G) → G
@@ -118,8 +118,8 @@ kind_reads t k h =
 
 kind_writes : (k : Kind) → target_cell k ≤ 99999 → kind_value (kind_words k) ≡ Some k
 kind_writes Goes h = refl
-kind_writes (Needs t) h = rw (whole_writes 99999 five t h)
-kind_writes (Bars t) h = rw (whole_writes 99999 five t h)
+kind_writes (Needs t) h = rw (only_writes t h)
+kind_writes (Bars t) h = rw (only_writes t h)
 
 kind_clean : (k : Kind) → target_cell k ≤ 99999 → no_end (kind_words k) ≡ true
 kind_clean Goes h = refl

@@ -4,7 +4,7 @@ use Rattle.std.specs.List.{AllByRecursion}
 use Rattle.std.proofs.lemmas.List.{nil_from_length}
 use Rattle.std.proofs.lemmas.Bool.{eqb-true, ne_eqb}
 use Rattle.fields.specs.Law.{Written}
-use Rattle.fields.specs.Numbers.{digit_first, number_at, whole_number, after_space, led, numbers_up_to}
+use Rattle.fields.specs.Numbers.{digit_first, number_at, only_number, whole_number, after_space, led, numbers_up_to}
 use Rattle.fields.specs.Texts.{spaced_text, numbers_text}
 use Rattle.fields.proofs.Chains.{and_then_case, cond_case, cond_some}
 use Rattle.fields.proofs.Digits.{reads_digits}
@@ -32,6 +32,12 @@ module _ (max : ℕ) (fits : max < 2 ^ 64) where
 -- numbers of 1 to 5 digits
 pub five : 99999 < 2 ^ 64
 five = omega arith
+
+pub only_reads : (t : List ℕ) (n : ℕ) → only_number t ≡ Some n → (n ≤ 99999) × (t ≡ decimal n)
+only_reads = whole_reads 99999 five
+
+pub only_writes : (n : ℕ) → n ≤ 99999 → only_number (decimal n) ≡ Some n
+only_writes = whole_writes 99999 five
 
 spaced_is : (ns : List ℕ) → 1 ≤ length ns → spaced_text ns ≡ 32 ∷ numbers_text ns
 spaced_is [] h = absurd (omega arith)
