@@ -50,14 +50,14 @@ module _ (max : ℕ) (m : max < 2 ^ 64) where
       (stops v (c ∷ cs) n rest q)
 
   at_reads : (t : List ℕ) (n : ℕ) (rest : List ℕ) → number_at max t ≡ Some (n, rest) → Written max t n rest
-  at_reads [] n rest h = let z : ◌≡◌ {A = ℕ} 0 1 = cc in absurd (omega arith)
+  at_reads [] n rest h = absurd cc
   at_reads (c ∷ cs) n rest h = cond_case (eqb c 48) _ _ (Some (n, rest)) h zero_reads lead_reads
     where
       zero_reads : eqb c 48 ≡ true → cond {A = Option (ℕ × List ℕ)} (digit_first cs) None (Some (0, cs)) ≡ Some (n, rest) → Written max (c ∷ cs) n rest
       zero_reads z h =
           let e = eqb-true c 48 z in
           cond_case (digit_first cs) _ _ (Some (n, rest)) h
-          (λ d h. let x : ◌≡◌ {A = ℕ} 0 1 = cc in absurd (omega arith))
+          (λ d h. absurd cc)
           (λ d h. rw (first_digit 0 c cs (omega arith) (omega arith)) (stops 0 cs n rest (omega arith) d h))
 
       lead_reads : eqb c 48 ≡ false → cond (is_digit c) (number_on max 0 (c ∷ cs)) None ≡ Some (n, rest) → Written max (c ∷ cs) n rest

@@ -3,6 +3,7 @@ pub mod Digits
 pub mod LineLists
 pub mod LineTexts
 pub mod LineViews
+pub mod NumberLists
 pub mod NumberTexts
 pub mod Views
 pub mod Words

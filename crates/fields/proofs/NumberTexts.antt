@@ -44,7 +44,7 @@ spaced_is [] h = absurd (omega arith)
 spaced_is (n ∷ ns) h = refl
 
 led_case : {G : Type 0} (xs ns : List ℕ) (o : Option (List ℕ)) → led xs o ≡ Some ns → ((ms : List ℕ) → o ≡ Some ms → xs ++ ms ≡ ns → G) → G
-led_case xs ns None h g = let z : ◌≡◌ {A = ℕ} 0 1 = cc in absurd (omega arith)
+led_case xs ns None h g = absurd cc
 led_case xs ns (Some ms) h g = g ms refl (cc)
 
 -- numbers of 1 to 5 digits, at least one and at most m
@@ -53,7 +53,7 @@ Few m ns = (1 ≤ length ns) × (length ns ≤ m) × AllByRecursion (λ n. n ≤
 
 pub numbers_read : (m : ℕ) (t ns : List ℕ) → numbers_up_to m t ≡ Some ns → Few m ns × (t ≡ numbers_text ns)
 unfolding numbers_up_to
-numbers_read zero t ns h = let z : ◌≡◌ {A = ℕ} 0 1 = cc in absurd (omega arith)
+numbers_read zero t ns h = absurd cc
 numbers_read (suc m) t ns h =
     and_then_case (number_at 99999 t) _ ns h (λ p p-is h.
     let w = number_reads 99999 five t p p-is in

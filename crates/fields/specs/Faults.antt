@@ -1,5 +1,5 @@
 -- Faults: their numbers, layers and texts.
-use Rattle.std.specs.Prelude.{ℕ, Some, None, Option}
+use Rattle.std.specs.Prelude.{ℕ, List, [], ◌++◌, codes, decimal, Some, None, Option}
 use Rattle.fields.specs.declared.fault.Fault.{Fault}
 use Rattle.fields.specs.declared.fault.FaultKind.{FaultKind}
 use Rattle.fields.specs.declared.fault.FaultKind.TheVariants.{TextTooLong, LineMissing, LineTooLong, WrongKey, WrongForm, OutOfRange, SlotsNotRising, TargetAmongSlots, NoStandardSlot, TextAfterEnd, TooManyCells, UnlawfulCells, TextDoesNotFit}
@@ -49,3 +49,17 @@ source_of k = of_layer (layer_of k)
 
 abbrev pub fault : FaultKind → ℕ → Fault
 fault k n = record { kind = k; line = n }
+
+-- what a layer is called
+abbrev pub layer_name : Layer → List ℕ
+layer_name Line = codes "line"
+layer_name Field = codes "field"
+layer_name Catalogue = codes "catalogue"
+
+abbrev layer_part : Option Layer → List ℕ
+layer_part None = []
+layer_part (Some l) = codes " layer=" ++ layer_name l
+
+-- line=L code=C, and layer=NAME where a layer asked
+abbrev pub fault_text : Fault → List ℕ
+fault_text f = codes "line=" ++ decimal f.line ++ codes " code=" ++ decimal (number_of f.kind) ++ layer_part (layer_of f.kind)

@@ -1,6 +1,7 @@
 -- Numbers in a line: decimal digits without a leading zero.
 use Rattle.std.specs.Prelude.{ℕ, zero, suc, ◌+◌, ◌-◌, ◌*◌, Bool, false, cond, ◌&&◌, List, [], ◌∷◌, ◌++◌, length, Some, None, Option, ◌==◌, nat_le}
 use Rattle.fields.specs.Results.{and_then}
+use Rattle.fields.specs.Words.{after_word}
 
 abbrev pub is_digit : ℕ → Bool
 is_digit c = nat_le 48 c && nat_le c 57
@@ -22,18 +23,17 @@ number_at max [] = None
 number_at max (c ∷ cs) =
     cond (c == 48) (cond (digit_first cs) None (Some (0, cs))) (cond (is_digit c) (number_on max 0 (c ∷ cs)) None)
 
--- the number of 1 to 5 digits that is the whole text
-abbrev pub only_number : List ℕ → Option ℕ
-only_number t = and_then (number_at 99999 t) (λ p. cond (length p.1 == 0) (Some p.0) None)
-
 -- the number that is the whole text; none past max
 abbrev pub whole_number : ℕ → List ℕ → Option ℕ
 whole_number max t = and_then (number_at max t) (λ p. cond (length p.1 == 0) (Some p.0) None)
 
+-- the number of 1 to 5 digits that is the whole text
+abbrev pub only_number : List ℕ → Option ℕ
+only_number = whole_number 99999
+
 -- what follows one space
 abbrev pub after_space : List ℕ → Option (List ℕ)
-after_space [] = None
-after_space (c ∷ cs) = cond (c == 32) (Some cs) None
+after_space t = after_word t (32 ∷ [])
 
 -- numbers in front of those that come
 abbrev pub led : List ℕ → Option (List ℕ) → Option (List ℕ)

@@ -25,8 +25,3 @@ found_or e (Some x) = Ok x
 abbrev pub beside : {T U E : Type 0} → Result T E → U → Result (T × U) E
 beside (Ok x) y = Ok (x, y)
 beside (Err e) y = Err e
-
--- the value that came, or another
-abbrev pub ok_or : {T E : Type 0} → Result T E → T → T
-ok_or (Ok x) y = x
-ok_or (Err e) y = y

@@ -10,8 +10,7 @@ after_word (c ∷ cs) (w ∷ ws) = cond (c == w) (after_word cs ws) None
 
 -- what follows "="
 abbrev pub after_equals : List ℕ → Option (List ℕ)
-after_equals [] = None
-after_equals (c ∷ cs) = cond (c == 61) (Some cs) None
+after_equals t = after_word t (61 ∷ [])
 
 -- what follows the key and "="
 abbrev pub value_of : List ℕ → List ℕ → Option (List ℕ)

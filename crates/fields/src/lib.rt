@@ -1,6 +1,8 @@
 #![tactic(auto)]
 
+mod cutting;
 pub mod fault;
+pub mod natural;
 pub mod number;
 pub mod numbers;
 pub mod reader;

@@ -4,7 +4,7 @@ mod listed;
 
 pub use listed::past_space;
 
-// Up to four numbers of one line.
+// Up to four numbers of one line, in an array with a count: the value is copied, and takes no heap.
 #[derive(Clone, Copy)]
 pub struct Numbers {
     values: [u32; 4],

@@ -1,6 +1,6 @@
 ghost use Rattle.std.specs.Prelude.{◌+◌, ◌^◌, ◌<◌, length};
 
-pub(crate) mod lines;
+mod lines;
 mod state;
 
 // A text that is read line by line: the number of the next line, from 1, and the bytes from there on.

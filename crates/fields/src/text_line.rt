@@ -4,8 +4,8 @@ ghost use Rattle.fields.specs.Named.{of_source, line_place, part, named_bytes, n
 ghost use Rattle.fields.specs.TextLines.{lines, first_line, LinesInTurn, line_at};
 ghost use Rattle.fields.specs.Values.{line_of};
 
+use crate::cutting::cut;
 use crate::fault::{Fault, Source};
-use crate::reader::lines::cut;
 
 // A line of a text without its end, and whether it has one.
 #[derive(Clone, Copy)]
@@ -15,6 +15,7 @@ pub struct TextLine<'a> {
 }
 
 // The first line of the text, if it has any bytes, and what follows it.
+#[tactic(auto, using(crate::proofs::LineLists::lines_in_turn))]
 pub fn first_line(text: &[u8]) -> Option<(TextLine<'_>, &[u8])>
     ensures value { option_map (λ x. (line_of x.0, x.1.now)) result ≡ first_line text.now }
     ensures law { LinesInTurn }
@@ -22,33 +23,32 @@ pub fn first_line(text: &[u8]) -> Option<(TextLine<'_>, &[u8])>
     if text.is_empty() {
         return None;
     }
-    match cut(text) {
-        Some((bytes, rest)) => Some((TextLine { bytes, ended: true }, rest)),
-        None => Some((
+    Some(match cut(text) {
+        Some((bytes, rest)) => (TextLine { bytes, ended: true }, rest),
+        None => (
             TextLine {
                 bytes: text,
                 ended: false,
             },
             &[],
-        )),
-    }
+        ),
+    })
 }
 
 // From where to where a line of the text lies, without its end.
+#[tactic(auto, using(crate::proofs::LineLists::line_at_zero))]
 fn line_place(text: &[u8], line: u32) -> Option<(usize, usize)>
     ensures within { IfSome result (λ p. (p.0 ≤ p.1) × (p.1 ≤ length text.now)) }
     ensures place { result ≡ line_place line text.now }
     ensures bytes { option_map (part text.now) result ≡ option_map (λ l. l.bytes) (line_at line (lines text.now)) }
 {
+    if line == 0 {
+        return None;
+    }
     let mut from = 0usize;
-    let mut left = line;
-    while left > 1 {
+    for _ in 1..line {
         let (bytes, _) = cut(&text[from..])?;
         from += bytes.len() + 1;
-        left -= 1;
-    }
-    if left == 0 {
-        return None;
     }
     let (first, _) = first_line(&text[from..])?;
     Some((from, from + first.bytes.len()))

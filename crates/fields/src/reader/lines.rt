@@ -1,59 +1,34 @@
 ghost use Rattle.std.specs.Prelude.{◌≡◌, ◌+◌, ◌<◌, true, length, is_err, IfOk};
 ghost use Rattle.std.specs.Option.{option_map};
-ghost use Rattle.fields.specs.Results.{mapped_ok, ok_or, beside};
+ghost use Rattle.fields.specs.Results.{mapped_ok, beside};
 ghost use Rattle.fields.specs.Values.{place_of};
 ghost use Rattle.fields.specs.Lines.{cut_line, position, begun, next_line, keyed_line};
 
 use super::Reader;
+use crate::cutting::cut;
 use crate::fault::{Fault, FaultKind};
 use crate::word::past_key;
 
-// The bytes before the first line end, and those after it.
-pub(crate) fn cut(text: &[u8]) -> Option<(&[u8], &[u8])>
-    ensures { option_map (λ x. (x.0.now, x.1.now)) result ≡ cut_line text.now }
-{
-    for (i, b) in text.iter().enumerate() {
-        match char::from(*b) {
-            '\n' => return Some((&text[0..i], &text[i + 1..])),
-            _ => {}
-        }
-    }
-    None
-}
-
 impl<'a> Reader<'a> {
-    // Goes to the start of a text, unless that is too long to be read.
-    pub fn open(&mut self, text: &'a [u8]) -> Result<(), Fault>
-        ensures value { result ≡ mapped_ok (λ _. tt) (begun text.now) }
-        ensures after { place_of self.new ≡ ok_or (begun text.now) (place_of self.old) }
+    // A reader at the start of a text, unless that is too long to be read.
+    pub fn open(text: &'a [u8]) -> Result<Reader<'a>, Fault>
+        ensures { mapped_ok place_of result ≡ begun text.now }
     {
         if text.len() > 65_536 {
-            return Err(Fault {
-                kind: FaultKind::TextTooLong,
-                line: 0,
-            });
+            return Err(FaultKind::TextTooLong.at(0));
         }
-        self.line = 1;
-        self.text = text;
-        Ok(())
+        Ok(Reader { line: 1, text })
     }
 
     // The line that comes next, without its end, and the text after it.
+    #[tactic(auto, using(crate::proofs::LineViews::cut_length))]
     fn next_line(&self) -> Result<(&'a [u8], &'a [u8]), Fault>
         ensures shorter { IfOk result (λ x. length x.1.now < length (place_of self.now).text) }
         ensures value { mapped_ok (λ x. (x.0.now, position ((place_of self.now).line + 1) x.1.now)) result ≡ next_line (place_of self.now) }
     {
-        let Some((line, rest)) = cut(self.text) else {
-            return Err(Fault {
-                kind: FaultKind::LineMissing,
-                line: self.line,
-            });
-        };
+        let (line, rest) = cut(self.text).ok_or(FaultKind::LineMissing.at(self.line))?;
         if line.len() > 80 {
-            return Err(Fault {
-                kind: FaultKind::LineTooLong,
-                line: self.line,
-            });
+            return Err(FaultKind::LineTooLong.at(self.line));
         }
         Ok((line, rest))
     }
@@ -64,12 +39,7 @@ impl<'a> Reader<'a> {
         ensures value { beside (mapped_ok (λ x. x.now) result) (place_of self.new) ≡ keyed_line key.now (place_of self.old) }
     {
         let (line, rest) = self.next_line()?;
-        let Some(value) = past_key(line, key) else {
-            return Err(Fault {
-                kind: FaultKind::WrongKey,
-                line: self.line,
-            });
-        };
+        let value = past_key(line, key).ok_or(FaultKind::WrongKey.at(self.line))?;
         self.line += 1;
         self.text = rest;
         Ok(value)

@@ -5,13 +5,6 @@ ghost use Rattle.fields.specs.Values.{place_of};
 use super::Reader;
 
 impl<'a> Reader<'a> {
-    // A reader that has no text yet.
-    pub fn new() -> Reader<'a>
-        ensures { place_of result ≡ position 1 [] }
-    {
-        Reader { line: 1, text: &[] }
-    }
-
     // The number of the line that comes next.
     pub fn line(&self) -> u32
         ensures { result ≡ (place_of self.now).line }

@@ -1,5 +1,6 @@
-use Rattle.std.proofs.Common.{◌≡◌, length, take}
+use Rattle.std.proofs.Common.{◌≡◌, take}
+use Rattle.fields.specs.Values.{values_of}
 use Rattle.fields.proofs.numbers.Numbers.of_cells.Given as goal
 
-abbrev pub invariant-loop-i : goal.invariant-loop-i
-invariant-loop-i l = (length l.values ≡ 4) × (take l.i l.values ≡ take l.i l.cells)
+abbrev pub invariant-loop-cell : goal.invariant-loop-cell
+invariant-loop-cell l = values_of l.numbers ≡ take l.cell-index l.cells

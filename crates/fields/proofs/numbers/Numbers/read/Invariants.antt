@@ -1,6 +1,11 @@
-use Rattle.std.proofs.Common.{◌≡◌, ◌-◌, length, take}
-use Rattle.fields.specs.Numbers.{led, numbers_up_to}
+use Rattle.std.proofs.Common.{◌≡◌, ◌-◌, length}
+use Rattle.fields.specs.Numbers.{numbers_up_to}
+use Rattle.fields.specs.Values.{values_of}
+use Rattle.fields.proofs.NumberLists.{read_on}
 use Rattle.fields.proofs.numbers.Numbers.read.Given as goal
 
-abbrev pub invariant-loop-i : goal.invariant-loop-i
-invariant-loop-i l = (length l.values ≡ 4) × (led (take l.i l.values) (numbers_up_to (4 - l.i) l.rest) ≡ numbers_up_to 4 l.text)
+abbrev pub invariant-loop-n : goal.invariant-loop-n
+invariant-loop-n l = read_on 4 (values_of l.numbers) l.rest ≡ numbers_up_to 4 l.text
+
+abbrev pub decreases-loop-n : goal.decreases-loop-n
+decreases-loop-n l = 4 - length (values_of l.numbers)
