@@ -3,6 +3,7 @@ use Rattle.std.specs.Prelude.{◌≡◌, ℕ, zero, suc, ◌^◌, ◌<◌, ◌�
 use Rattle.std.proofs.Common.{sym, ap, subst, ◌∙◌, ⊎_elim, arith}
 use Rattle.std.proofs.lemmas.Nat.{and_le_l}
 use Rattle.std.proofs.lemmas.List.{get_or-set_same, get_or-set_other, get_or-map, length-set}
+use Rattle.std.proofs.lemmas.Grind.{common_steps}
 use Rattle.std.proofs.lemmas.Bool.{eq-eqb, ne_eqb, eqb-true, eqb-false, cases_Bool, cases_eq}
 use Rattle.kits.specs.Labels.{bit, Has, least}
 use Rattle.kits.specs.Boxes.{Boxed, In, single, lowest_filling}
@@ -14,27 +15,15 @@ use Rattle.club_example.specs.Matches.{both, matched_allows, matched_narrowed, F
 
 -- a write of a part of a label is a part of the box
 part_set : (b : List ℕ) (i x : ℕ) → i < length b → ((v : ℕ) → Has x v → Has (slice_index b i) v) → Part (slice_set b i x) b
-part_set b i x h p k v m =
-    ⊎_elim
-    (λ (e : k ≡ i). rw e (p v (rw (e, get_or-set_same b i x 0 h) at m)))
-    (λ (n : k ≡ i → ⊥). rw (get_or-set_other b i k x 0 n) at m)
-    (cases_eq k i)
+part_set b i x h p k v m = let q = p v in grind (arith, common_steps, q)
 
 -- a member of the label written and of the label at k is there at k
 has_set : (b : List ℕ) (i k x v : ℕ) → i < length b → Has x v → Has (slice_index b k) v → Has (slice_index (slice_set b i x) k) v
-has_set b i k x v h m n =
-    ⊎_elim
-    (λ (e : k ≡ i). rw (e, get_or-set_same b i x 0 h) m)
-    (λ (d : k ≡ i → ⊥). rw (get_or-set_other b i k x 0 d) n)
-    (cases_eq k i)
+has_set b i k x v h m n = grind (arith, common_steps)
 
 -- the label written first is there after both writes
 set_twice : (b : List ℕ) (i k x : ℕ) → i < length b → k < length (slice_set b i x) → slice_index (slice_set (slice_set b i x) k x) i ≡ x
-set_twice b i k x h n =
-    ⊎_elim
-    (λ (e : i ≡ k). rw e (get_or-set_same (slice_set b k x) k x 0 (rw e at n)))
-    (λ (d : i ≡ k → ⊥). get_or-set_other (slice_set b i x) k i x 0 d ∙ get_or-set_same b i x 0 h)
-    (cases_eq i k)
+set_twice b i k x h n = grind (arith, common_steps)
 
 module _ (s t : ℕ) (within-s : s < 24) (within-t : t < 24) where
   -- the label that both slots get is a part of each
@@ -49,7 +38,7 @@ module _ (s t : ℕ) (within-s : s < 24) (within-t : t < 24) where
   fitted b c e =
       let x = both s t b in
       ⊎_elim
-      (λ (z : nat_eq x 0 ≡ true). let f = rw z at e in let w : ◌≡◌ {A = ℕ} 0 1 = cc in absurd (omega arith))
+      (λ (z : nat_eq x 0 ≡ true). let f = rw z at e in absurd (cc))
       (λ (z : nat_eq x 0 ≡ false). let f = rw z at e in let n = eqb-false x 0 z in (omega arith, (cc)))
       (cases_Bool (x == 0))
 
@@ -97,7 +86,7 @@ module _ (s t : ℕ) (within-s : s < 24) (within-t : t < 24) where
       let h = (met l m (least x)).0 (has_least x p) in
       n (sym (has_one l (least x) (o.1 s i) (single_at b s i one) h.0) ∙ has_one m (least x) (o.1 t j) (single_at b t j one) h.1)
       in
-      let z : x ≡ 0 = ⊎_elim (λ (a : x ≡ 0). a) (λ (a : x ≡ 0 → ⊥). absurd (none (omega arith))) (cases_eq x 0) in
+      let z : x ≡ 0 = omega (arith, none) in
       rw (q, w, ne_eqb _ _ n, eq-eqb x 0 z) refl)
       (cases_eq (least l) (least m))
 

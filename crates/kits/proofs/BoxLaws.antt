@@ -1,77 +1,45 @@
 -- Laws of a box.
-use Rattle.std.proofs.Common.{◌≡◌, ℕ, zero, suc, ◌+◌, ◌*◌, ◌^◌, ◌<◌, ◌≤◌, Bool, true, false, ◌&&◌, eqb, ◌⊎◌, List, [], ◌∷◌, length, get_or, take, drop, set, Some, None, sym, refl, ap, ◌∙◌, subst, inl, inr, ⊎_elim, suc-le-suc, le_of_suc-le-suc, mul_assoc, add-mul, one-mul, pow-suc, add-one, arith, drop-cons}
+use Rattle.std.proofs.Common.{◌≡◌, ℕ, zero, suc, ◌+◌, ◌*◌, ◌^◌, ◌<◌, ◌≤◌, Bool, true, false, not, ◌&&◌, eqb, ◌⊎◌, List, [], ◌∷◌, length, get_or, drop, set, Some, None, sym, refl, ap, ◌∙◌, inl, inr, ⊎_elim, suc-le-suc, le_of_suc-le-suc, mul_assoc, add-mul, one-mul, pow-suc, add-one, arith, drop-cons}
 use lib.Count.{ones, count_trailing_zeros}
-use Rattle.std.proofs.lemmas.List.{at_drop_more, at_drop_all, length-set, get_or-set_same, get_or-set_other, get_or-map, length-map, take_more, take_more_set, take_all}
+use Rattle.std.proofs.lemmas.List.{at_drop_more, at_drop_all, length-set, get_or-set_same, get_or-set_other, get_or-map, length-map}
 use Rattle.std.proofs.lemmas.Nat.{mul-le, ones-le}
-use Rattle.std.proofs.lemmas.Bool.{eq-eqb, ne_eqb, eqb-true, eqb-false, cases_Bool, cases_eq, true≢false}
+use Rattle.std.proofs.lemmas.List.Recursion.{and_at}
+use Rattle.std.proofs.lemmas.Bool.{not-true, ne_eqb, eqb-true, eqb-false, cases_Bool, cases_eq, true≢false}
+use Rattle.std.proofs.lemmas.Bool.Decides.{nat_tests}
+use Rattle.std.proofs.lemmas.Grind.{same_number_lists}
+use Rattle.std.specs.List.{list_all, zip, position}
 use Rattle.kits.specs.Labels.{bit, Has, has_member, least, low, others, if_any}
-use Rattle.kits.specs.Boxes.{In, Full, all_some, Small, Boxed, holds, volume, single, settled, open_slot, halves, first_half, second_half, lowest_filling}
+use Rattle.kits.specs.Boxes.{In, Full, all_some, Small, Boxed, holds, volume, single, settled, open_slot, halves, first_half, second_half, half, lowest_filling}
 use Rattle.kits.specs.Fillings.{Numbers}
 use Rattle.kits.specs.Laws.{OpenSlot}
 use Rattle.kits.proofs.LabelLaws.{bit_sum, ones_low, ones_others, lt_pow, others_pos, bit_one, has_low, has_others, least_at, least_small, ones_pos}
 
-pub some_more : (b : List ℕ) (i : ℕ) → i < length b → (get_or b i 0 ≡ 0 → ⊥) → all_some (drop (i + 1) b) ≡ all_some (drop i b)
-some_more b i h n = sym (rw (ne_eqb _ _ n) at (at_drop_more all_some b i 0 h))
-
-pub some_stop : (b : List ℕ) (i : ℕ) → i < length b → get_or b i 0 ≡ 0 → all_some (drop i b) ≡ false
-some_stop b i h z = rw (eq-eqb _ _ z) at (at_drop_more all_some b i 0 h)
-
 pub some_full : (b : List ℕ) → all_some b ≡ true → Full b
-some_full [] s k h = absurd (omega arith)
-some_full (l ∷ b) s zero h =
-    ⊎_elim
-    (λ (e : eqb l 0 ≡ true). absurd (true≢false (sym s ∙ rw e refl)))
-    (λ (e : eqb l 0 ≡ false). let n = eqb-false _ _ e in omega arith)
-    (cases_Bool (eqb l 0))
-some_full (l ∷ b) s (suc k) h =
-    ⊎_elim
-    (λ (e : eqb l 0 ≡ true). absurd (true≢false (sym s ∙ rw e refl)))
-    (λ (e : eqb l 0 ≡ false). some_full b (rw e at s) k (le_of_suc-le-suc h))
-    (cases_Bool (eqb l 0))
-
-pub single_more : (b : List ℕ) (i : ℕ) → i < length b → ones (get_or b i 0) ≡ 1 → single (drop (i + 1) b) ≡ single (drop i b)
-single_more b i h o = sym (rw (eq-eqb _ _ o) at (at_drop_more single b i 0 h))
-
-pub single_stop : (b : List ℕ) (i : ℕ) → i < length b → (ones (get_or b i 0) ≡ 1 → ⊥) → single (drop i b) ≡ false
-single_stop b i h n = rw (ne_eqb _ _ n) at (at_drop_more single b i 0 h)
-
-pub settled_more : (b : List ℕ) (i : ℕ) → i < length b → ones (get_or b i 0) ≡ 1 → settled (drop i b) ≡ suc (settled (drop (i + 1) b))
-settled_more b i h o = rw (eq-eqb _ _ o) at (at_drop_more settled b i 0 h)
-
-pub settled_stop : (b : List ℕ) (i : ℕ) → i < length b → (ones (get_or b i 0) ≡ 1 → ⊥) → settled (drop i b) ≡ 0
-settled_stop b i h n = rw (ne_eqb _ _ n) at (at_drop_more settled b i 0 h)
+some_full b s k h = let n = not-true _ (and_at all_some (λ l. not (eqb l 0)) refl (λ _ _. refl) b k 0 h s) in omega (arith, eqb-false _ _ n)
 
 pub settled_within : (b : List ℕ) → single b ≡ false → settled b < length b
 settled_within [] s = absurd (true≢false s)
-settled_within (l ∷ b) s =
-    ⊎_elim
-    (λ (e : eqb (ones l) 1 ≡ true). rw e (suc-le-suc (settled_within b (rw e at s))))
-    (λ (e : eqb (ones l) 1 ≡ false). rw e (omega arith))
-    (cases_Bool (eqb (ones l) 1))
+settled_within (l ∷ b) s = let ih = settled_within b in grind (arith, nat_tests, ih)
 
 pub settled_several : (b : List ℕ) → single b ≡ false → ones (get_or b (settled b) 0) ≡ 1 → ⊥
 settled_several [] s = absurd (true≢false s)
-settled_several (l ∷ b) s =
-    ⊎_elim
-    (λ (e : eqb (ones l) 1 ≡ true). rw e (settled_several b (rw e at s)))
-    (λ (e : eqb (ones l) 1 ≡ false). rw e (eqb-false _ _ e))
-    (cases_Bool (eqb (ones l) 1))
+settled_several (l ∷ b) s = let ih = settled_several b in grind (arith, nat_tests, ih)
+
+-- the first slot with several members is the open slot
+pub open_is : (b : List ℕ) → position (λ l. not (eqb (ones l) 1)) b ≡ open_slot b
+open_is [] = refl
+open_is (l ∷ b) = let ih = open_is b in grind (arith, nat_tests, ih)
+
+-- a half is a write of the open slot
+half_at : (part : ℕ → ℕ) (b : List ℕ) → half part b ≡ set b (settled b) (part (get_or b (settled b) 0))
+half_at part [] = refl
+half_at part (l ∷ b) = let ih = half_at part b in grind (arith, nat_tests, ih)
 
 pub first_at : (b : List ℕ) → first_half b ≡ set b (settled b) (low (get_or b (settled b) 0))
-first_at [] = refl
-first_at (l ∷ b) =
-    ⊎_elim
-    (λ (e : eqb (ones l) 1 ≡ true). rw e (ap (λ x. l ∷ x) (first_at b)))
-    (λ (e : eqb (ones l) 1 ≡ false). rw e refl)
-    (cases_Bool (eqb (ones l) 1))
+first_at = half_at low
 
 pub second_at : (b : List ℕ) → second_half b ≡ set b (settled b) (others (get_or b (settled b) 0))
-second_at [] = refl
-second_at (l ∷ b) =
-    ⊎_elim
-    (λ (e : eqb (ones l) 1 ≡ true). rw e (ap (λ x. l ∷ x) (second_at b)))
-    (λ (e : eqb (ones l) 1 ≡ false). rw e refl)
-    (cases_Bool (eqb (ones l) 1))
+second_at = half_at others
 
 pub full_tail : (l : ℕ) (b : List ℕ) → Full (l ∷ b) → Full b
 full_tail l b f k h = f (suc k) (suc-le-suc h)
@@ -105,73 +73,54 @@ in_split (v ∷ f) (l ∷ b) u i =
     (bit_one v (low l))))
     (cases_Bool (eqb (ones l) 1))
 
--- and nothing else is in them
-pub first_in : (f b : List ℕ) → Full b → In f (first_half b) → In f b
-first_in [] [] u = λ i. i
-first_in (v ∷ f) [] u = λ i. i
-first_in [] (l ∷ b) u =
+-- a box with slots holds no filling of none
+pub none_in : (part : ℕ → ℕ) (l : ℕ) (b : List ℕ) → In [] (half part (l ∷ b)) → ⊥
+none_in part l b =
     ⊎_elim
     (λ (e : eqb (ones l) 1 ≡ true). rw e (λ i. i))
     (λ (e : eqb (ones l) 1 ≡ false). rw e (λ i. i))
     (cases_Bool (eqb (ones l) 1))
-first_in (v ∷ f) (l ∷ b) u =
+
+-- and nothing else is in them
+half_in : (part : ℕ → ℕ) → ((l v : ℕ) → 0 < l → Has (part l) v → Has l v) → (f b : List ℕ) → Full b → In f (half part b) → In f b
+half_in part p [] [] u = λ i. i
+half_in part p (v ∷ f) [] u = λ i. i
+half_in part p [] (l ∷ b) u = none_in part l b
+half_in part p (v ∷ f) (l ∷ b) u =
     ⊎_elim
-    (λ (e : eqb (ones l) 1 ≡ true). rw e (λ i. (i.0, first_in f b (full_tail l b u) i.1)))
-    (λ (e : eqb (ones l) 1 ≡ false). rw e (λ i. (has_low l v (u 0 (omega arith)) i.0, i.1)))
+    (λ (e : eqb (ones l) 1 ≡ true). rw e (λ i. (i.0, half_in part p f b (full_tail l b u) i.1)))
+    (λ (e : eqb (ones l) 1 ≡ false). rw e (λ i. (p l v (u 0 (omega arith)) i.0, i.1)))
     (cases_Bool (eqb (ones l) 1))
+
+pub first_in : (f b : List ℕ) → Full b → In f (first_half b) → In f b
+first_in = half_in low has_low
 
 pub second_in : (f b : List ℕ) → Full b → In f (second_half b) → In f b
-second_in [] [] u = λ i. i
-second_in (v ∷ f) [] u = λ i. i
-second_in [] (l ∷ b) u =
-    ⊎_elim
-    (λ (e : eqb (ones l) 1 ≡ true). rw e (λ i. i))
-    (λ (e : eqb (ones l) 1 ≡ false). rw e (λ i. i))
-    (cases_Bool (eqb (ones l) 1))
-second_in (v ∷ f) (l ∷ b) u =
-    ⊎_elim
-    (λ (e : eqb (ones l) 1 ≡ true). rw e (λ i. (i.0, second_in f b (full_tail l b u) i.1)))
-    (λ (e : eqb (ones l) 1 ≡ false). rw e (λ i. (has_others l v (u 0 (omega arith)) i.0, i.1)))
-    (cases_Bool (eqb (ones l) 1))
+second_in = half_in others has_others
 
--- after a write of a label that has a member
-pub full_set : (b : List ℕ) (i x : ℕ) → Full b → 0 < x → Full (set b i x)
-full_set b i x f p k h =
+-- what holds of each label and of the one written holds of each label then
+each_set : (P : ℕ → Type 0) (b : List ℕ) (i x : ℕ) → ((k : ℕ) → k < length b → P (get_or b k 0)) → P x → (k : ℕ) → k < length (set b i x) → P (get_or (set b i x) k 0)
+each_set P b i x f p k h =
     ⊎_elim
     (λ (e : k ≡ i). let j : i < length b = rw (length-set, e) at h in rw e (rw get_or-set_same p))
     (λ (n : k ≡ i → ⊥). rw (get_or-set_other b i k x 0 n) (f k (rw length-set at h)))
     (cases_eq k i)
 
 pub boxed_set : (b : List ℕ) (i x : ℕ) → Boxed b → 0 < x → x < 2 ^ 16 → Boxed (set b i x)
-boxed_set b i x o p q = (length-set b i x ∙ o.0, full_set b i x o.1 p, small)
-  where
-    small : Small (set b i x)
-    small k h =
-        ⊎_elim
-        (λ (e : k ≡ i). let j : i < length b = rw (length-set, e) at h in rw e (rw get_or-set_same q))
-        (λ (n : k ≡ i → ⊥). rw (get_or-set_other b i k x 0 n) (o.2 k (rw length-set at h)))
-        (cases_eq k i)
+boxed_set b i x o p q = (length-set b i x ∙ o.0, each_set (λ l. 0 < l) b i x o.1 p, each_set (λ l. l < 2 ^ 16) b i x o.2 q)
 
 -- an open slot that was found
 opened : (b : List ℕ) (i : ℕ) → Some i ≡ open_slot b → (single b ≡ false) × (i ≡ settled b)
 opened b i h =
     ⊎_elim
-    (λ (e : single b ≡ true). let f = rw e at h in let z : ◌≡◌ {A = ℕ} 0 1 = cc in absurd (omega arith))
+    (λ (e : single b ≡ true). let f = rw e at h in absurd (cc))
     (λ (e : single b ≡ false). let f : Some i ≡ Some (settled b) = rw e at h in (e, (cc)))
     (cases_Bool (single b))
 
 settled_lower : (b : List ℕ) (j : ℕ) → j < settled b → ones (get_or b j 0) ≡ 1
-settled_lower [] j = λ h. absurd (omega arith)
-settled_lower (l ∷ b) zero =
-    ⊎_elim
-    (λ (e : eqb (ones l) 1 ≡ true). rw e (λ h. eqb-true _ _ e))
-    (λ (e : eqb (ones l) 1 ≡ false). rw e (λ h. absurd (omega arith)))
-    (cases_Bool (eqb (ones l) 1))
-settled_lower (l ∷ b) (suc j) =
-    ⊎_elim
-    (λ (e : eqb (ones l) 1 ≡ true). rw e (λ h. settled_lower b j (le_of_suc-le-suc h)))
-    (λ (e : eqb (ones l) 1 ≡ false). rw e (λ h. absurd (omega arith)))
-    (cases_Bool (eqb (ones l) 1))
+settled_lower [] j h = absurd (omega arith)
+settled_lower (l ∷ b) zero h = grind (arith, nat_tests)
+settled_lower (l ∷ b) (suc j) h = let ih = settled_lower b j in grind (arith, nat_tests, ih)
 
 pub open_law : OpenSlot
 open_law b k o h =
@@ -223,31 +172,7 @@ in_set (v ∷ f) (l ∷ b) zero x n h = (h, n.1)
 in_set (v ∷ f) (l ∷ b) (suc i) x n h = (n.0, in_set f b i x n.1 h)
 
 pub single_at : (b : List ℕ) (i : ℕ) → i < length b → single b ≡ true → ones (get_or b i 0) ≡ 1
-single_at [] i h s = absurd (omega arith)
-single_at (l ∷ b) zero h s =
-    ⊎_elim
-    (λ (e : eqb (ones l) 1 ≡ true). eqb-true _ _ e)
-    (λ (e : eqb (ones l) 1 ≡ false). absurd (true≢false (sym (rw e at s))))
-    (cases_Bool (eqb (ones l) 1))
-single_at (l ∷ b) (suc i) h s =
-    ⊎_elim
-    (λ (e : eqb (ones l) 1 ≡ true). single_at b i (le_of_suc-le-suc h) (rw e at s))
-    (λ (e : eqb (ones l) 1 ≡ false). absurd (true≢false (sym (rw e at s))))
-    (cases_Bool (eqb (ones l) 1))
-
--- the loop of `filling`, one slot on and at its end
-pub filling_more : (out b : List ℕ) (i : ℕ) → Boxed b → length out ≡ 24 → i < 24 → take i out ≡ take i (lowest_filling b)
-    → take (i + 1) (set out i (count_trailing_zeros 16 (get_or b i 0))) ≡ take (i + 1) (lowest_filling b)
-filling_more out b i o n h e =
-    let w : i < length b = omega (arith, o.0) in
-    let y : count_trailing_zeros 16 (get_or b i 0) ≡ least (get_or b i 0) = least_at 16 (get_or b i 0) (o.1 i w) (o.2 i w) in
-    let z : get_or (lowest_filling b) i 0 ≡ least (get_or b i 0) = get_or-map least b i 0 0 w in
-    let m = take_more (lowest_filling b) i 0 (rw (length-map b least) w) in
-    let s = take_more_set out i (count_trailing_zeros 16 (get_or b i 0)) (omega arith) in
-    s ∙ rw (e, y) (sym (rw z at m))
-
-pub filling_all : (out b : List ℕ) (i : ℕ) → length b ≡ 24 → length out ≡ 24 → 24 ≤ i → take i out ≡ take i (lowest_filling b) → out ≡ lowest_filling b
-filling_all out b i m n h e = sym (take_all i out (omega arith)) ∙ e ∙ take_all i (lowest_filling b) (rw (length-map b least) (omega arith))
+single_at b i h s = eqb-true _ _ (and_at single (λ l. eqb (ones l) 1) refl (λ _ _. refl) b i 0 h s)
 
 pub lowest_numbers : (b : List ℕ) → Boxed b → Numbers (lowest_filling b)
 lowest_numbers b o k h =
@@ -275,13 +200,6 @@ pub volume_more : (b : List ℕ) (v i : ℕ) → i < length b → v * volume (dr
 volume_more b v i h e =
     mul_assoc v (ones (get_or b i 0)) (volume (drop (i + 1) b)) ∙ ap (λ (x : ℕ). v * x) (sym (at_drop_more volume b i 0 h)) ∙ e
 
-pub volume_fits : (b : List ℕ) (v i : ℕ) → Boxed b → i < length b → v * volume (drop i b) ≡ volume b → v * ones (get_or b i 0) < 2 ^ 128
-volume_fits b v i o h e =
-    let x = v * ones (get_or b i 0) in
-    let m : x * 1 ≤ x * volume (drop (i + 1) b) = mul-le x 1 x (volume (drop (i + 1) b)) (omega arith) (volume_pos_drop b (i + 1) o.1) in
-    let s : volume b ≤ 16 ^ 24 = subst (λ (n : ℕ). volume b ≤ 16 ^ n) o.0 (volume_small b o.2) in
-    omega (arith, m, s, volume_more b v i h e)
-
 -- the loop of `holds`, one slot on and at its end
 pub holds_more : (b f : List ℕ) (i v : ℕ) (t : Bool) → i < length b → i < length f → v ≡ get_or f i 0 → t ≡ has_member (get_or b i 0) v
     → holds (drop i b) (drop i f) ≡ (t && holds (drop (i + 1) b) (drop (i + 1) f))
@@ -290,3 +208,19 @@ holds_more b f i v t h n e u =
 
 pub holds_end : (b f : List ℕ) (i : ℕ) → length b ≤ i → length f ≤ i → holds (drop i b) (drop i f) ≡ true
 holds_end b f i h n = at_drop_all (λ (x : List ℕ). holds x (drop i f)) b i h ∙ at_drop_all (λ (x : List ℕ). holds [] x) f i n
+
+-- the same of the labels beside the numbers
+pub holds_zip : (b f : List ℕ) → length b ≡ length f → list_all (λ p. has_member p.0 p.1) (zip b f) ≡ holds b f
+holds_zip [] [] e = refl
+holds_zip [] (v ∷ f) e = absurd (omega (arith, e))
+holds_zip (l ∷ b) [] e = absurd (omega (arith, e))
+holds_zip (l ∷ b) (v ∷ f) e = ap (λ (x : Bool). has_member l v && x) (holds_zip b f (omega (arith, e)))
+
+-- the numbers made of the labels one by one
+pub filled : (b f : List ℕ) → Boxed b → length f ≡ 24 → ((i : ℕ) → i < 24 → get_or f i 0 ≡ count_trailing_zeros 16 (get_or b i 0)) → f ≡ lowest_filling b
+filled b f o n each = same_number_lists f (lowest_filling b) (n ∙ sym (length-map b least ∙ o.0)) place
+  where
+    place : (i : ℕ) → i < length f → get_or f i 0 ≡ get_or (lowest_filling b) i 0
+    place i h =
+        let w : i < length b = omega (arith, o.0) in
+        each i (omega arith) ∙ least_at 16 (get_or b i 0) (o.1 i w) (o.2 i w) ∙ sym (get_or-map least b i 0 0 w)

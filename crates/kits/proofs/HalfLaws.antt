@@ -8,7 +8,7 @@ use Rattle.kits.specs.Fillings.{Before}
 use Rattle.kits.specs.Boxes.{Boxed, Full, In, holds, single, settled, first_half, second_half, lowest_filling}
 use Rattle.kits.specs.Laws.{Held, SingleHoldsOne, LowestFilling, SplitHalves}
 use Rattle.kits.proofs.LabelLaws.{alone, bit_pow, has_least, least_le, least_below, low_le, lt_pow}
-use Rattle.kits.proofs.BoxLaws.{full_tail, settled_within, boxed_set, others_left, first_at, second_at, in_split, first_in, second_in, volume_split}
+use Rattle.kits.proofs.BoxLaws.{full_tail, settled_within, boxed_set, others_left, first_at, second_at, in_split, none_in, first_in, second_in, volume_split}
 use Rattle.kits.proofs.OrderLaws.{strict}
 
 holds_in : (b f : List ℕ) → holds b f ≡ true → In f b
@@ -31,11 +31,7 @@ pub has_one : (l v : ℕ) → 0 < l → ones l ≡ 1 → Has l v → v ≡ least
 has_one l v p o h = bit_pow v (least l) (subst (λ (x : ℕ). bit v x ≡ 1) (alone l p o) h)
 
 pub single_head : (l : ℕ) (b : List ℕ) → single (l ∷ b) ≡ true → (ones l ≡ 1) × (single b ≡ true)
-single_head l b s =
-    ⊎_elim
-    (λ (e : eqb (ones l) 1 ≡ true). (eqb-true _ _ e, rw e at s))
-    (λ (e : eqb (ones l) 1 ≡ false). absurd (true≢false (sym (rw e at s))))
-    (cases_Bool (eqb (ones l) 1))
+single_head l b s = let p = and_parts (eqb (ones l) 1) (single b) s in (eqb-true _ _ p.0, p.1)
 
 pub lowest_held : (b : List ℕ) → Full b → In (lowest_filling b) b
 lowest_held [] f = tt
@@ -73,10 +69,8 @@ lowest_law b o = record {
 -- what the first half holds precedes what the second half holds
 halves_ordered : (f g b : List ℕ) → Full b → single b ≡ false → In f (first_half b) → In g (second_half b) → Before f g
 halves_ordered f g [] u s = absurd (true≢false s)
-halves_ordered [] g (l ∷ b) u s =
-    ⊎_elim (λ (e : eqb (ones l) 1 ≡ true). rw e (λ i j. i)) (λ (e : eqb (ones l) 1 ≡ false). rw e (λ i j. i)) (cases_Bool (eqb (ones l) 1))
-halves_ordered (v ∷ f) [] (l ∷ b) u s =
-    ⊎_elim (λ (e : eqb (ones l) 1 ≡ true). rw e (λ i j. j)) (λ (e : eqb (ones l) 1 ≡ false). rw e (λ i j. j)) (cases_Bool (eqb (ones l) 1))
+halves_ordered [] g (l ∷ b) u s = λ i j. none_in low l b i
+halves_ordered (v ∷ f) [] (l ∷ b) u s = λ i j. absurd (none_in others l b j)
 halves_ordered (v ∷ f) (x ∷ g) (l ∷ b) u s =
     let p = u 0 (omega arith) in
     ⊎_elim

@@ -1,47 +1,57 @@
 -- Laws of a label.
-use Rattle.std.proofs.Common.{◌≡◌, ℕ, zero, suc, ◌+◌, ◌-◌, ◌*◌, ◌/◌, ◌%◌, ◌^◌, ◌<◌, ◌≤◌, min, not, eqb, ◌⊎◌, refl, ap, ◌∙◌, subst, inl, inr, ⊎_elim, suc-le-suc, zero-le, mul_assoc, pow-suc, arith}
+use Rattle.std.proofs.Common.{◌≡◌, ℕ, zero, suc, ◌+◌, ◌-◌, ◌/◌, ◌%◌, ◌^◌, ◌<◌, ◌≤◌, min, ◌⊎◌, sym, refl, ◌∙◌, subst, inl, inr, ⊎_elim, suc-le-suc, zero-le, pow-suc, arith}
 use lib.Count.{ones, count_trailing_zeros, ones_step}
-use lib.Bits.{bit_and, and_step, and_self, and_zero_l}
-use Rattle.std.proofs.lemmas.Nat.{one_shl, pow_pos}
-use Rattle.std.proofs.lemmas.Bool.{eq-eqb, ne_eqb, cases_lt}
-use Rattle.kits.specs.Labels.{bit, Has, has_member, least, low, others}
+use lib.Bits.{bit_and, and_step, and_self}
+use Rattle.std.proofs.lemmas.Nat.Bits.{bit_at_lowest, bit_at-suc, bit_at-zero, bit_at-lt, bit_at-pow_same, bit_at-pow_other, bit_at_and, bit_at_above}
+use Rattle.std.specs.Int.{bit_at}
+use Rattle.std.proofs.lemmas.Bool.{cases_lt, cases_eq}
+use Rattle.kits.specs.Labels.{bit, Has, least, low, others}
 use Rattle.kits.specs.Laws.{LowestMember, Met, LowestSplit}
+
+-- bit v as the library counts it
+pub bit_is : (v l : ℕ) → bit v l ≡ bit_at l v
+bit_is zero l = sym (bit_at_lowest l)
+bit_is (suc v) l = bit_is v (l / 2) ∙ sym (bit_at-suc l v)
 
 -- the lowest digit is 0 or 1
 parity : (l : ℕ) → (l % 2 ≡ 0) ⊎ (l % 2 ≡ 1)
-parity l = go (l % 2) (omega arith)
-  where
-    go : (n : ℕ) → n < 2 → (n ≡ 0) ⊎ (n ≡ 1)
-    go zero h = inl refl
-    go (suc zero) h = inr refl
-    go (suc (suc n)) h = absurd (omega arith)
+parity l = ⊎_elim (λ (h : l % 2 < 1). inl (omega arith)) (λ (h : 1 ≤ l % 2). inr (omega arith)) (cases_lt (l % 2) 1)
 
 pub bit_zero : (v : ℕ) → bit v 0 ≡ 0
-bit_zero zero = refl
-bit_zero (suc v) = bit_zero v
+bit_zero v = bit_is v 0 ∙ bit_at-zero v
 
-even_case : (l t v : ℕ) → l % 2 ≡ 0 → ((u : ℕ) → bit u (l / 2 - 2 ^ t) + bit u (2 ^ t) ≡ bit u (l / 2)) → bit v (l - 2 ^ suc t) + bit v (2 ^ suc t) ≡ bit v l
-even_case l t zero e ih = omega (arith, pow-suc 2 t)
-even_case l t (suc v) e ih =
-    let a : (l - 2 ^ suc t) / 2 ≡ l / 2 - 2 ^ t = omega (arith, pow-suc 2 t) in
-    let b : 2 ^ suc t / 2 ≡ 2 ^ t = omega (arith, pow-suc 2 t) in
-    rw (a, b) (ih v)
+pub bit_lt : (v l : ℕ) → bit v l < 2
+bit_lt v l = rw (bit_is v l) (bit_at-lt l v)
 
-odd_case : (l v : ℕ) → l % 2 ≡ 1 → bit v (l - 1) + bit v 1 ≡ bit v l
-odd_case l zero o = omega arith
-odd_case l (suc v) o =
-    let a : (l - 1) / 2 ≡ l / 2 = omega arith in
-    rw a (omega (arith, bit_zero v))
+pub bit_one : (v l : ℕ) → (bit v l ≡ 1) ⊎ (bit v l ≡ 0)
+bit_one zero l = ⊎_elim inr inl (parity l)
+bit_one (suc v) l = bit_one v (l / 2)
+
+-- what holds of the place of the lowest member: of an odd label at 0, and of an even label at one more than of its half
+by_lowest : (P : ℕ → ℕ → Type 0) → ((l : ℕ) → l % 2 ≡ 1 → P 0 l) → ((t l : ℕ) → 0 < l → l % 2 ≡ 0 → P t (l / 2) → P (suc t) l)
+    → (k l : ℕ) → 0 < l → l < 2 ^ k → P (count_trailing_zeros k l) l
+unfolding count_trailing_zeros
+by_lowest P odd even zero l p h = absurd (omega arith)
+by_lowest P odd even (suc k) l p h =
+    ⊎_elim
+    (λ (e : l % 2 ≡ 0). rw e (even (count_trailing_zeros k (l / 2)) l p e (by_lowest P odd even k (l / 2) (omega arith) (omega (arith, pow-suc 2 k)))))
+    (λ (o : l % 2 ≡ 1). rw o (odd l o))
+    (parity l)
 
 -- each digit of a label is a digit of its lowest member or of its other members
 pub bit_sum : (k l v : ℕ) → 0 < l → l < 2 ^ k → bit v (l - 2 ^ count_trailing_zeros k l) + bit v (2 ^ count_trailing_zeros k l) ≡ bit v l
-unfolding count_trailing_zeros
-bit_sum zero l v p h = absurd (omega arith)
-bit_sum (suc k) l v p h =
-    ⊎_elim
-    (λ (e : l % 2 ≡ 0). rw e (even_case l (count_trailing_zeros k (l / 2)) v e (λ u. bit_sum k (l / 2) u (omega arith) (omega (arith, pow-suc 2 k)))))
-    (λ (o : l % 2 ≡ 1). rw o (odd_case l v o))
-    (parity l)
+bit_sum k l v p h = by_lowest (λ t l. (v : ℕ) → bit v (l - 2 ^ t) + bit v (2 ^ t) ≡ bit v l) odd even k l p h v
+  where
+    odd : (l : ℕ) → l % 2 ≡ 1 → (v : ℕ) → bit v (l - 1) + bit v 1 ≡ bit v l
+    odd l o zero = omega arith
+    odd l o (suc v) = let a : (l - 1) / 2 ≡ l / 2 = omega arith in rw a (omega (arith, bit_zero v))
+
+    even : (t l : ℕ) → 0 < l → l % 2 ≡ 0 → ((v : ℕ) → bit v (l / 2 - 2 ^ t) + bit v (2 ^ t) ≡ bit v (l / 2)) → (v : ℕ) → bit v (l - 2 ^ suc t) + bit v (2 ^ suc t) ≡ bit v l
+    even t l p e ih zero = omega (arith, pow-suc 2 t)
+    even t l p e ih (suc v) =
+        let a : (l - 2 ^ suc t) / 2 ≡ l / 2 - 2 ^ t = omega (arith, pow-suc 2 t) in
+        let b : 2 ^ suc t / 2 ≡ 2 ^ t = omega (arith, pow-suc 2 t) in
+        rw (a, b) (ih v)
 
 pub ones_low : (t : ℕ) → ones (2 ^ t) ≡ 1
 unfolding ones
@@ -51,29 +61,21 @@ ones_low (suc t) =
     let c : 2 ^ suc t % 2 ≡ 0 = omega (arith, pow-suc 2 t) in
     ones_step (2 ^ suc t) ∙ rw (b, c) (omega (arith, ones_low t))
 
-ones_even : (l t : ℕ) → l % 2 ≡ 0 → ones (l / 2 - 2 ^ t) + 1 ≡ ones (l / 2) → ones (l - 2 ^ suc t) + 1 ≡ ones l
-ones_even l t e ih =
-    let a : (l - 2 ^ suc t) / 2 ≡ l / 2 - 2 ^ t = omega (arith, pow-suc 2 t) in
-    let b : (l - 2 ^ suc t) % 2 ≡ 0 = omega (arith, pow-suc 2 t) in
-    let s = rw (a, b) at (ones_step (l - 2 ^ suc t)) in
-    omega (arith, s, ones_step l)
-
-ones_odd : (l : ℕ) → l % 2 ≡ 1 → ones (l - 1) + 1 ≡ ones l
-ones_odd l e =
-    let a : (l - 1) / 2 ≡ l / 2 = omega arith in
-    let b : (l - 1) % 2 ≡ 0 = omega arith in
-    let s = rw (a, b) at (ones_step (l - 1)) in
-    omega (arith, s, ones_step l)
-
 -- the other members are one fewer
 pub ones_others : (k l : ℕ) → 0 < l → l < 2 ^ k → ones (l - 2 ^ count_trailing_zeros k l) + 1 ≡ ones l
-unfolding count_trailing_zeros
-ones_others zero l p h = absurd (omega arith)
-ones_others (suc k) l p h =
-    ⊎_elim
-    (λ (e : l % 2 ≡ 0). rw e (ones_even l (count_trailing_zeros k (l / 2)) e (ones_others k (l / 2) (omega arith) (omega (arith, pow-suc 2 k)))))
-    (λ (o : l % 2 ≡ 1). rw o (ones_odd l o))
-    (parity l)
+ones_others = by_lowest (λ t l. ones (l - 2 ^ t) + 1 ≡ ones l) odd even
+  where
+    odd : (l : ℕ) → l % 2 ≡ 1 → ones (l - 1) + 1 ≡ ones l
+    odd l o =
+        let a : (l - 1) / 2 ≡ l / 2 = omega arith in
+        let b : (l - 1) % 2 ≡ 0 = omega arith in
+        omega (arith, rw (a, b) at (ones_step (l - 1)), ones_step l)
+
+    even : (t l : ℕ) → 0 < l → l % 2 ≡ 0 → ones (l / 2 - 2 ^ t) + 1 ≡ ones (l / 2) → ones (l - 2 ^ suc t) + 1 ≡ ones l
+    even t l p e ih =
+        let a : (l - 2 ^ suc t) / 2 ≡ l / 2 - 2 ^ t = omega (arith, pow-suc 2 t) in
+        let b : (l - 2 ^ suc t) % 2 ≡ 0 = omega (arith, pow-suc 2 t) in
+        omega (arith, ih, rw (a, b) at (ones_step (l - 2 ^ suc t)), ones_step l)
 
 -- the lowest member is the lowest
 pub least_le : (k l v : ℕ) → Has l v → count_trailing_zeros k l ≤ v
@@ -87,19 +89,14 @@ least_le (suc k) l (suc v) h =
     (parity l)
 
 -- a power has one digit
-pub bit_pow : (v t : ℕ) → bit v (2 ^ t) ≡ 1 → v ≡ t
-bit_pow zero zero h = refl
-bit_pow zero (suc t) h = absurd (omega (arith, pow-suc 2 t))
-bit_pow (suc v) zero h = absurd (omega (arith, bit_zero v))
-bit_pow (suc v) (suc t) h =
-    let b : 2 ^ suc t / 2 ≡ 2 ^ t = omega (arith, pow-suc 2 t) in
-    ap suc (bit_pow v t (rw b at h))
-
 pub pow_bit : (t : ℕ) → bit t (2 ^ t) ≡ 1
-pow_bit zero = refl
-pow_bit (suc t) =
-    let b : 2 ^ suc t / 2 ≡ 2 ^ t = omega (arith, pow-suc 2 t) in
-    rw b (pow_bit t)
+pow_bit t = bit_is t (2 ^ t) ∙ bit_at-pow_same t
+
+bit_other : (v t : ℕ) → (v ≡ t → ⊥) → bit v (2 ^ t) ≡ 0
+bit_other v t n = bit_is v (2 ^ t) ∙ bit_at-pow_other t v n
+
+pub bit_pow : (v t : ℕ) → bit v (2 ^ t) ≡ 1 → v ≡ t
+bit_pow v t h = ⊎_elim (λ (e : v ≡ t). e) (λ (n : v ≡ t → ⊥). absurd (omega (arith, h, bit_other v t n))) (cases_eq v t)
 
 pub lt_pow : (l : ℕ) → l < 2 ^ l
 lt_pow zero = omega arith
@@ -107,31 +104,19 @@ lt_pow (suc l) = omega (arith, lt_pow l, pow-suc 2 l)
 
 -- what `l & (l - 1)` is
 pub and_less : (k l : ℕ) → 0 < l → l < 2 ^ k → bit_and l (l - 1) ≡ l - 2 ^ count_trailing_zeros k l
-unfolding count_trailing_zeros
-and_less zero l p h = absurd (omega arith)
-and_less (suc k) l p h =
-    ⊎_elim
-    (λ (e : l % 2 ≡ 0).
-    let t = count_trailing_zeros k (l / 2) in
-    let a : (l - 1) / 2 ≡ l / 2 - 1 = omega arith in
-    let s = rw (a, e) at (and_step l (l - 1)) in
-    let ih = and_less k (l / 2) (omega arith) (omega (arith, pow-suc 2 k)) in
-    rw e (omega (arith, s, ih, pow-suc 2 t)))
-    (λ (o : l % 2 ≡ 1).
-    let a : (l - 1) / 2 ≡ l / 2 = omega arith in
-    let b : (l - 1) % 2 ≡ 0 = omega arith in
-    let s = rw (a, b, o, and_self (l / 2)) at (and_step l (l - 1)) in
-    rw o (omega (arith, s)))
-    (parity l)
+and_less = by_lowest (λ t l. bit_and l (l - 1) ≡ l - 2 ^ t) odd even
+  where
+    odd : (l : ℕ) → l % 2 ≡ 1 → bit_and l (l - 1) ≡ l - 1
+    odd l o =
+        let a : (l - 1) / 2 ≡ l / 2 = omega arith in
+        let b : (l - 1) % 2 ≡ 0 = omega arith in
+        omega (arith, rw (a, b, o, and_self (l / 2)) at (and_step l (l - 1)))
+
+    even : (t l : ℕ) → 0 < l → l % 2 ≡ 0 → bit_and (l / 2) (l / 2 - 1) ≡ l / 2 - 2 ^ t → bit_and l (l - 1) ≡ l - 2 ^ suc t
+    even t l p e ih = let a : (l - 1) / 2 ≡ l / 2 - 1 = omega arith in omega (arith, ih, rw (a, e) at (and_step l (l - 1)), pow-suc 2 t)
 
 pub low_le : (k l : ℕ) → 0 < l → l < 2 ^ k → 2 ^ count_trailing_zeros k l ≤ l
-unfolding count_trailing_zeros
-low_le zero l p h = absurd (omega arith)
-low_le (suc k) l p h =
-    ⊎_elim
-    (λ (e : l % 2 ≡ 0). rw e (omega (arith, low_le k (l / 2) (omega arith) (omega (arith, pow-suc 2 k)), pow-suc 2 (count_trailing_zeros k (l / 2)))))
-    (λ (o : l % 2 ≡ 1). rw o (omega arith))
-    (parity l)
+low_le = by_lowest (λ t l. 2 ^ t ≤ l) (λ l o. omega arith) (λ t l p e h. omega (arith, h, pow-suc 2 t))
 
 -- a label with a member counts one
 pub ones_pos : (k l : ℕ) → 0 < l → l < 2 ^ k → 0 < ones l
@@ -148,41 +133,23 @@ others_pos k l p h n = go (l - 2 ^ count_trailing_zeros k l) (ones_others k l p 
     go zero e = absurd (n (omega (arith, e, ones_zero)))
     go (suc m) e = omega arith
 
-pub bit_one : (v l : ℕ) → (bit v l ≡ 1) ⊎ (bit v l ≡ 0)
-bit_one zero l = ⊎_elim inr inl (parity l)
-bit_one (suc v) l = bit_one v (l / 2)
-
 pub has_low : (l v : ℕ) → 0 < l → Has (low l) v → Has l v
-has_low l v p h = ⊎_elim (λ x. x) (λ (z : bit v l ≡ 0). absurd (omega (arith, bit_sum l l v p (lt_pow l), z, h))) (bit_one v l)
+has_low l v p h = omega (arith, bit_sum l l v p (lt_pow l), bit_lt v l, h)
 
 pub has_others : (l v : ℕ) → 0 < l → Has (others l) v → Has l v
-has_others l v p h = ⊎_elim (λ x. x) (λ (z : bit v l ≡ 0). absurd (omega (arith, bit_sum l l v p (lt_pow l), z, h))) (bit_one v l)
+has_others l v p h = omega (arith, bit_sum l l v p (lt_pow l), bit_lt v l, h)
 
 -- the lowest member is below each other member
 pub least_below : (l v : ℕ) → 0 < l → Has (others l) v → least l < v
 least_below l v p h =
+    let h1 = least_le l l v (has_others l v p h) in
     ⊎_elim
-    (λ (x : bit v (low l) ≡ 1). absurd (⊎_elim (λ (y : bit v l ≡ 1). omega (arith, bit_sum l l v p (lt_pow l), x, y, h)) (λ (y : bit v l ≡ 0). omega (arith, bit_sum l l v p (lt_pow l), x, y, h)) (bit_one v l)))
-    (λ (x : bit v (low l) ≡ 0). le_ne (least l) v (least_le l l v (has_others l v p h)) (λ e. absurd (omega (arith, x, subst (λ (y : ℕ). bit y (low l) ≡ 1) e (pow_bit (least l))))))
-    (bit_one v (low l))
-  where
-    le_ne : (a b : ℕ) → a ≤ b → (a ≡ b → ⊥) → a < b
-    le_ne a b h n = omega arith
+    (λ (e : v ≡ least l). let one : bit v (low l) ≡ 1 = rw e (pow_bit (least l)) in absurd (omega (arith, bit_sum l l v p (lt_pow l), bit_lt v l, h)))
+    (λ (n : v ≡ least l → ⊥). omega (arith, h1))
+    (cases_eq v (least l))
 
 pub bit_of_and : (v a b : ℕ) → bit v (bit_and a b) ≡ min (bit v a) (bit v b)
-bit_of_and zero a b = omega (arith, and_step a b)
-bit_of_and (suc v) a b =
-    let h : bit_and a b / 2 ≡ bit_and (a / 2) (b / 2) = omega (arith, and_step a b) in
-    rw h (bit_of_and v (a / 2) (b / 2))
-
-pub and_pow : (t m : ℕ) → bit_and (2 ^ t) m ≡ bit t m * 2 ^ t
-and_pow zero m = omega (arith, and_step 1 m, and_zero_l (m / 2))
-and_pow (suc t) m =
-    let b : 2 ^ suc t / 2 ≡ 2 ^ t = omega (arith, pow-suc 2 t) in
-    let c : 2 ^ suc t % 2 ≡ 0 = omega (arith, pow-suc 2 t) in
-    let s = rw (b, c) at (and_step (2 ^ suc t) m) in
-    let ih = and_pow t (m / 2) in
-    omega (arith, s, ih, mul_assoc (bit t (m / 2)) (2 ^ t) 2, ap (λ (x : ℕ). bit t (m / 2) * x) (pow-suc 2 t))
+bit_of_and v a b = rw (bit_is v (bit_and a b), bit_is v a, bit_is v b) (bit_at_and a b v)
 
 -- a label with one member is a power
 pub alone : (l : ℕ) → 0 < l → ones l ≡ 1 → l ≡ 2 ^ least l
@@ -203,18 +170,7 @@ least_at k l p h =
 
 -- past the length of a label there are no members
 pub bit_beyond : (k v l : ℕ) → l < 2 ^ k → k ≤ v → bit v l ≡ 0
-bit_beyond zero v l h n = let z : l ≡ 0 = omega arith in rw z (bit_zero v)
-bit_beyond (suc k) zero l h n = absurd (omega arith)
-bit_beyond (suc k) (suc v) l h n = bit_beyond k v (l / 2) (omega (arith, pow-suc 2 k)) (omega arith)
-
--- a member found by its mask
-pub has_mask : (v l : ℕ) → v < 16 → not (eqb (bit_and ((1 * 2 ^ v) % 2 ^ 16) l) 0) ≡ has_member l v
-has_mask v l h =
-    let e : bit_and ((1 * 2 ^ v) % 2 ^ 16) l ≡ bit v l * 2 ^ v = rw (one_shl v 16 h) (and_pow v l) in
-    ⊎_elim
-    (λ (o : bit v l ≡ 1). rw (eq-eqb _ _ o, ne_eqb (bit_and ((1 * 2 ^ v) % 2 ^ 16) l) 0 (λ z. absurd (omega (arith, rw o at e, pow_pos v)))) refl)
-    (λ (o : bit v l ≡ 0). rw (ne_eqb (bit v l) 1 (λ z. absurd (omega arith)), eq-eqb (bit_and ((1 * 2 ^ v) % 2 ^ 16) l) 0 (omega (arith, rw o at e))) refl)
-    (bit_one v l)
+bit_beyond k v l h n = bit_is v l ∙ bit_at_above l k v h n
 
 pub has_least : (l : ℕ) → 0 < l → Has l (least l)
 has_least l p = has_low l (least l) p (pow_bit (least l))
@@ -228,25 +184,11 @@ lowest_member = record { member = has_least; lowest = λ l v h. least_le l l v h
 pub met : Met
 met l m v = (to, λ h. omega (arith, bit_of_and v l m, h.0, h.1))
   where
-    one : (a b : ℕ) → (a ≡ 1) ⊎ (a ≡ 0) → (b ≡ 1) ⊎ (b ≡ 0) → min a b ≡ 1 → (a ≡ 1) × (b ≡ 1)
-    one a b x y e =
-        ⊎_elim
-        (λ (p : a ≡ 1). ⊎_elim (λ (q : b ≡ 1). (p, q)) (λ (q : b ≡ 0). absurd (omega arith)) y)
-        (λ (p : a ≡ 0). absurd (omega arith))
-        x
-
     to : Has (bit_and l m) v → Has l v × Has m v
-    to h = one (bit v l) (bit v m) (bit_one v l) (bit_one v m) (omega (arith, bit_of_and v l m, h))
+    to h = (omega (arith, bit_of_and v l m, bit_lt v l, h), omega (arith, bit_of_and v l m, bit_lt v m, h))
 
 pub lowest_split : LowestSplit
 lowest_split = record {
   first = λ l v p. (bit_pow v (least l), λ e. rw e (pow_bit (least l)));
-  second = λ l v p. (λ h. (has_others l v p h, least_below l v p h), λ h. higher l v p h.0 h.1);
+  second = λ l v p. (λ h. (has_others l v p h, least_below l v p h), λ h. omega (arith, bit_sum l l v p (lt_pow l), bit_other v (least l) (λ e. absurd (omega (arith, h.1))), h.0));
 }
-  where
-    higher : (l v : ℕ) → 0 < l → Has l v → least l < v → Has (others l) v
-    higher l v p h n =
-        ⊎_elim
-        (λ (x : bit v (low l) ≡ 1). absurd (omega (arith, bit_pow v (least l) x)))
-        (λ (x : bit v (low l) ≡ 0). omega (arith, bit_sum l l v p (lt_pow l), h))
-        (bit_one v (low l))

@@ -1,14 +1,19 @@
 -- Laws of the order of fillings.
-use Rattle.std.proofs.Common.{◌≡◌, ℕ, ◌+◌, ◌<◌, true, false, cond, eqb, ltb, ◌⊎◌, List, [], ◌∷◌, length, get_or, drop, sym, refl, ◌∙◌, ap₂, inl, inr, ⊎_elim, add-one, arith, drop-cons}
+use Rattle.std.proofs.Common.{◌≡◌, ℕ, ◌<◌, true, false, eqb, ◌⊎◌, List, [], ◌∷◌, length, Some, sym, refl, ◌∙◌, ap₂, inl, inr, ⊎_elim, arith}
 use Rattle.std.proofs.lemmas.Bool.{cases_Bool, cases_eq, cases_order, eq-eqb, ne_eqb, eqb-true, lt-ltb, ltb-true, true≢false}
+use Rattle.std.proofs.lemmas.Bool.Decides.{nat_tests}
+use Rattle.std.specs.Ordering.{nat_cmp, is_lt, is_some_and}
+use Rattle.std.specs.Cmp.Lexicographic.{slice_partial_cmp}
 use Rattle.kits.specs.Fillings.{Before, before}
 use Rattle.kits.specs.Kits.{Emptied}
 use Rattle.kits.specs.Laws.{Order}
 
--- the loop of `precedes`, one slot on
-pub before_more : (f g : List ℕ) (i : ℕ) → i < length f → i < length g
-    → before (drop i f) (drop i g) ≡ cond (eqb (get_or f i 0) (get_or g i 0)) (before (drop (i + 1) f) (drop (i + 1) g)) (ltb (get_or f i 0) (get_or g i 0))
-before_more f g i h n = rw (drop-cons f i 0, drop-cons g i 0, add-one) refl
+-- what the derived comparison of two lists of one length answers
+pub before_lt : (f g : List ℕ) → length f ≡ length g → is_some_and is_lt (slice_partial_cmp (λ x y. Some (nat_cmp x y)) f g) ≡ before f g
+before_lt [] [] e = refl
+before_lt [] (v ∷ g) e = absurd (omega (arith, e))
+before_lt (u ∷ f) [] e = absurd (omega (arith, e))
+before_lt (u ∷ f) (v ∷ g) e = let ih = before_lt f g (omega (arith, e)) in grind (arith, nat_tests, ih)
 
 before_is : (f g : List ℕ) → before f g ≡ true → Before f g
 before_is [] g e = absurd (true≢false (sym e))

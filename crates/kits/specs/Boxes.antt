@@ -1,5 +1,6 @@
 -- Boxes: a label for each slot, and the fillings that they hold.
-use Rattle.std.specs.Prelude.{◌≡◌, ℕ, suc, ◌*◌, ◌^◌, ◌<◌, Bool, true, false, cond, ◌&&◌, List, [], ◌∷◌, map, length, Some, None, Option, ◌==◌, count_ones, slice_index}
+use Rattle.std.specs.Prelude.{◌≡◌, ℕ, suc, ◌*◌, ◌^◌, ◌<◌, Bool, true, false, cond, not, ◌&&◌, List, [], ◌∷◌, map, length, Some, None, Option, ◌==◌, count_ones, slice_index}
+use Rattle.std.specs.List.{list_all}
 use Rattle.kits.specs.Labels.{Has, has_member, least, low, others}
 
 -- no label is without a member
@@ -8,8 +9,7 @@ Full b = (k : ℕ) → k < length b → 0 < slice_index b k
 
 -- has each label a member?
 abbrev pub all_some : List ℕ → Bool
-all_some [] = true
-all_some (l ∷ b) = cond (l == 0) false (all_some b)
+all_some b = list_all (λ l. not (l == 0)) b
 
 -- each label has 16 bits
 abbrev pub Small : List ℕ → Type 0
@@ -40,8 +40,7 @@ volume (l ∷ b) = count_ones l * volume b
 
 -- has each label one member only?
 abbrev pub single : List ℕ → Bool
-single [] = true
-single (l ∷ b) = cond (count_ones l == 1) (single b) false
+single b = list_all (λ l. count_ones l == 1) b
 
 -- how many slots come before the first with several members
 abbrev pub settled : List ℕ → ℕ
@@ -52,15 +51,18 @@ settled (l ∷ b) = cond (count_ones l == 1) (suc (settled b)) 0
 abbrev pub open_slot : List ℕ → Option ℕ
 open_slot b = cond (single b) None (Some (settled b))
 
+-- the open slot has a part of its label
+abbrev pub half : (ℕ → ℕ) → List ℕ → List ℕ
+half part [] = []
+half part (l ∷ b) = cond (count_ones l == 1) (l ∷ half part b) (part l ∷ b)
+
 -- the open slot has its lowest member alone
 abbrev pub first_half : List ℕ → List ℕ
-first_half [] = []
-first_half (l ∷ b) = cond (count_ones l == 1) (l ∷ first_half b) (low l ∷ b)
+first_half b = half low b
 
 -- the open slot has its other members
 abbrev pub second_half : List ℕ → List ℕ
-second_half [] = []
-second_half (l ∷ b) = cond (count_ones l == 1) (l ∷ second_half b) (others l ∷ b)
+second_half b = half others b
 
 -- the two halves, unless the box is single
 abbrev pub halves : List ℕ → Option (List ℕ × List ℕ)

@@ -1,5 +1,6 @@
 -- Choices on slots.
-use Rattle.std.specs.Prelude.{Bool, true, ◌&&◌, List, [], ◌∷◌, nat_le}
+use Rattle.std.specs.Prelude.{Bool, true, ◌&&◌, List, nat_le}
+use Rattle.std.specs.List.{list_all}
 use Rattle.kits.specs.declared.choices.Choice.{Choice}
 use Rattle.kits.specs.declared.choices.Choice.TheVariants.{Free, Fixed, Barred}
 
@@ -10,5 +11,4 @@ choice_lawful (Fixed v) = nat_le 1 v && nat_le v 15
 choice_lawful Barred = true
 
 abbrev pub choices_lawful : List Choice → Bool
-choices_lawful [] = true
-choices_lawful (c ∷ cs) = choice_lawful c && choices_lawful cs
+choices_lawful cs = list_all choice_lawful cs

@@ -1,5 +1,5 @@
 -- Fillings: for each slot a number, 0 for empty or a part.
-use Rattle.std.specs.Prelude.{◌≡◌, ℕ, ◌<◌, Bool, false, cond, ◌⊎◌, List, [], ◌∷◌, length, ◌==◌, nat_lt, slice_index}
+use Rattle.std.specs.Prelude.{◌≡◌, ℕ, ◌<◌, Bool, false, cond, ◌⊎◌, List, [], ◌∷◌, length, ◌==◌, nat_lt, slice_index, Contains}
 
 -- each number is 0 or a part, 1 to 15
 abbrev pub Numbers : List ℕ → Type 0
@@ -17,12 +17,7 @@ before [] g = false
 before (u ∷ f) [] = false
 before (u ∷ f) (v ∷ g) = cond (u == v) (before f g) (nat_lt u v)
 
--- f is one of the fillings of the list
-abbrev pub Listed : List ℕ → List (List ℕ) → Type 0
-Listed f [] = ⊥
-Listed f (g ∷ gs) = (f ≡ g) ⊎ Listed f gs
-
 -- each filling precedes those after it
 abbrev pub Rising : List (List ℕ) → Type 0
 Rising [] = Unit {0}
-Rising (f ∷ fs) = ((g : List ℕ) → Listed g fs → Before f g) × Rising fs
+Rising (f ∷ fs) = ((g : List ℕ) → Contains fs g → Before f g) × Rising fs

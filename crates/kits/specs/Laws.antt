@@ -1,7 +1,7 @@
 -- What labels, boxes and the order come to.
-use Rattle.std.specs.Prelude.{◌≡◌, ℕ, ◌+◌, ◌<◌, ◌≤◌, true, false, ◌⊎◌, List, length, Some, bit_and, count_ones, slice_index}
+use Rattle.std.specs.Prelude.{◌≡◌, ℕ, ◌+◌, ◌<◌, ◌≤◌, true, false, ◌⊎◌, List, length, Some, bit_and, count_ones, slice_index, Contains}
 use Rattle.kits.specs.Labels.{Has, least, low, others}
-use Rattle.kits.specs.Fillings.{Before, before, Listed, Rising}
+use Rattle.kits.specs.Fillings.{Before, before, Rising}
 use Rattle.kits.specs.Boxes.{Boxed, In, holds, volume, single, open_slot, first_half, second_half, lowest_filling}
 use Rattle.kits.specs.Kits.{Emptied}
 
@@ -58,7 +58,7 @@ LowestFilling = (b : List ℕ) → Boxed b → LowestIn b
 
 -- the list has the fillings of the box, each once and in the order, and as many as the volume
 pub record FillingsOf (b : List ℕ) (fs : List (List ℕ)) : Type 0 where
-  pub all : (f : List ℕ) → Iff (In f b) (Listed f fs)
+  pub all : (f : List ℕ) → Iff (In f b) (Contains fs f)
   pub rising : Rising fs
   pub many : length fs ≡ volume b
 

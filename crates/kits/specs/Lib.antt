@@ -2,7 +2,6 @@ pub mod Books
 pub mod Boxes
 pub mod Choices
 pub mod Fillings
-pub mod Fits
 pub mod Kits
 pub mod Labels
 pub mod Laws

@@ -1,15 +1,8 @@
 ghost use Rattle.std.specs.Prelude.{◌≡◌, ℕ, Bool, List, Option};
+ghost use Rattle.std.specs.Option.{option_map};
 ghost use Rattle.kits.specs.Books.{Laws};
-ghost use Rattle.kits.specs.Fits.{fit_of, box_or};
 
 use crate::label_box::LabelBox;
-
-// What narrowing a box by a rule came to.
-#[derive(Clone, Copy, PartialEq, Eq, Debug)]
-pub enum Fit {
-    Fits,
-    Fails,
-}
 
 // A rule book: how many rules it has, which fillings each rule allows, and what narrowing by each rule makes of each box.
 pub trait Book {
@@ -24,10 +17,9 @@ pub trait Book {
     fn count(&self) -> u8
         ensures { result ≡ rules self.now };
 
-    // Narrows the box by a rule, and leaves it where that fails.
-    fn narrow(&self, rule: u8, b: &mut LabelBox) -> Fit
-        ensures fit { result ≡ fit_of (narrowed self.now rule b.old.labels) }
-        ensures after { b.new.labels ≡ box_or (narrowed self.now rule b.old.labels) b.old.labels };
+    // The box narrowed by a rule, or none where that fails.
+    fn narrow(&self, rule: u8, b: &LabelBox) -> Option<LabelBox>
+        ensures { option_map (λ c. c.labels) result ≡ narrowed self.now rule b.now.labels };
 
     ghost points: { (b : Self) → Laws (rules b) (allows b) (narrowed b) };
 }

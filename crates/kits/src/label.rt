@@ -4,7 +4,7 @@ mod calls;
 mod members;
 
 // A set of numbers, bit v standing for v, with at least one member.
-#[derive(Clone, Copy)]
+#[derive(Clone, Copy, PartialEq, Eq, Hash, Debug)]
 pub struct Label {
     pub(crate) bits: u16,
     ghost some: { 0 < bits },

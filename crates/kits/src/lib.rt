@@ -5,4 +5,5 @@ pub mod choices;
 pub mod filling;
 pub mod label;
 pub mod label_box;
+pub mod members;
 pub mod slot_number;

@@ -3,7 +3,7 @@ ghost use Rattle.club_example.specs.Matches.{matched_allows, matched_narrowed, M
 ghost use Rattle.club_example.specs.MatchLaws.{match_laws};
 
 use super::Matched;
-use kits::book::{Book, Fit};
+use kits::book::Book;
 use kits::label_box::LabelBox;
 use kits::slot_number::SlotNumber;
 
@@ -11,6 +11,7 @@ const RULES: u8 = 1;
 
 impl Matched {
     // The book that matches these two slots.
+    #[tactic(auto, using(crate::specs::MatchLaws::matching))]
     pub fn new(one: SlotNumber, other: SlotNumber) -> Matched
         ensures first { result.one ≡ one }
         ensures second { result.other ≡ other }
@@ -33,17 +34,13 @@ impl Book for Matched {
         RULES
     }
 
-    fn narrow(&self, rule: u8, b: &mut LabelBox) -> Fit {
-        if rule != 0 {
-            return Fit::Fits;
+    fn narrow(&self, rule: u8, b: &LabelBox) -> Option<LabelBox> {
+        let mut narrowed = *b;
+        if rule == 0 {
+            let both = b.label(self.one).meet(b.label(self.other))?;
+            narrowed.put(self.one, both);
+            narrowed.put(self.other, both);
         }
-        match b.label(self.one).meet(b.label(self.other)) {
-            Some(both) => {
-                b.put(self.one, both);
-                b.put(self.other, both);
-                Fit::Fits
-            }
-            None => Fit::Fails,
-        }
+        Some(narrowed)
     }
 }

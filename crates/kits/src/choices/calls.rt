@@ -1,8 +1,8 @@
-ghost use Rattle.std.specs.Prelude.{◌≡◌, length, replicate, if◌then◌else◌, slice_index_or, slice_set};
+ghost use Rattle.std.specs.Prelude.{◌≡◌, length, replicate, if◌then◌else◌, slice_index_or, slice_set, is_ok};
 ghost use Rattle.kits.specs.declared.choices.Choice.TheVariants.{Free};
 ghost use Rattle.kits.specs.Choices.{choice_lawful};
 
-use super::{Choice, Choices};
+use super::{Choice, Choices, NoPart};
 use crate::slot_number::SlotNumber;
 
 impl Choice {
@@ -11,8 +11,8 @@ impl Choice {
         ensures { result ≡ choice_lawful self }
     {
         match self {
-            Choice::Fixed(part) => 1 <= part && part <= 15,
-            _ => true,
+            Choice::Fixed(part) => (1..=15).contains(&part),
+            Choice::Free | Choice::Barred => true,
         }
     }
 }
@@ -42,16 +42,17 @@ impl Choices {
         &self.list
     }
 
-    // Puts a choice on a slot. A number that is no part cannot be fixed: that answers no, and changes nothing.
-    pub fn choose(&mut self, slot: SlotNumber, choice: Choice) -> bool
-        ensures value { result ≡ choice_lawful choice }
+    // Puts a choice on a slot. A number that is no part cannot be fixed: that is refused, and changes nothing.
+    #[tactic(auto, using(crate::proofs::ChoiceLaws::lawful_set))]
+    pub fn choose(&mut self, slot: SlotNumber, choice: Choice) -> Result<(), NoPart>
+        ensures value { is_ok result ≡ choice_lawful choice }
         ensures after { self.new.list ≡ (if choice_lawful choice then slice_set self.old.list slot.number choice else self.old.list) }
     {
-        let lawful = choice.is_lawful();
-        if lawful {
-            let at = slot.index();
-            self.list[at] = choice;
+        if !choice.is_lawful() {
+            return Err(NoPart);
         }
-        lawful
+        let at = slot.index();
+        self.list[at] = choice;
+        Ok(())
     }
 }

@@ -14,15 +14,11 @@ impl Filling {
     }
 
     // Has this filling the lower number in the first slot where they differ?
+    #[tactic(auto, using(crate::proofs::OrderLaws::before_lt, crate::proofs::OrderLaws::order))]
     pub fn precedes(&self, other: &Filling) -> bool
         ensures value { result ≡ before self.now.numbers other.now.numbers }
         ensures law { Order }
     {
-        for i in 0..24 {
-            if self.numbers[i] != other.numbers[i] {
-                return self.numbers[i] < other.numbers[i];
-            }
-        }
-        false
+        self < other
     }
 }

@@ -4,13 +4,14 @@ ghost use Rattle.kits.specs.Labels.{has_member, least, low, others, if_any};
 ghost use Rattle.kits.specs.Laws.{LowestMember, Met, LowestSplit};
 
 use super::Label;
+use crate::members::has_member;
 
 impl Label {
     // Is the number a member?
     pub fn has(self, number: u32) -> bool
         ensures { result ≡ has_member self.bits number }
     {
-        number < 16 && 1 << number & self.bits != 0
+        has_member(u64::from(self.bits), number)
     }
 
     // How many members there are.
@@ -28,6 +29,7 @@ impl Label {
     }
 
     // The lowest member.
+    #[tactic(auto, using(crate::proofs::LabelLaws::least_at, crate::proofs::LabelLaws::lowest_member))]
     pub fn lowest(self) -> u8
         ensures value { result ≡ least self.bits }
         ensures law { LowestMember }
@@ -36,6 +38,7 @@ impl Label {
     }
 
     // The members of both labels, if there are any.
+    #[tactic(auto, using(crate::proofs::LabelLaws::met))]
     pub fn meet(self, other: Label) -> Option<Label>
         ensures value { option_map (λ l. l.bits) result ≡ if_any (bit_and self.bits other.bits) }
         ensures law { Met }

@@ -4,7 +4,7 @@ ghost use Rattle.kits.specs.Laws.{Held, LowestFilling, VolumeCounts};
 
 use super::LabelBox;
 use crate::filling::Filling;
-use crate::label::Label;
+use crate::members::has_member;
 
 impl LabelBox {
     // The lowest member of each label: the one filling of a single box.
@@ -12,27 +12,21 @@ impl LabelBox {
         ensures value { result.numbers ≡ lowest_filling self.now.labels }
         ensures law { LowestFilling }
     {
-        let mut numbers = [0u8; 24];
-        for i in 0..24 {
-            numbers[i] = self.labels[i].trailing_zeros() as u8;
+        Filling {
+            numbers: self.labels.map(|l| l.trailing_zeros() as u8),
         }
-        Filling { numbers }
     }
 
     // Is each number in its label?
+    #[tactic(auto, using(crate::proofs::HalfLaws::held))]
     pub fn holds(&self, filling: &Filling) -> bool
         ensures value { result ≡ holds self.now.labels filling.now.numbers }
         ensures law { Held }
     {
-        for i in 0..24 {
-            let label = Label {
-                bits: self.labels[i],
-            };
-            if !label.has(u32::from(filling.numbers[i])) {
-                return false;
-            }
-        }
-        true
+        self.labels
+            .iter()
+            .zip(&filling.numbers)
+            .all(|(l, v)| has_member(u64::from(*l), u32::from(*v)))
     }
 
     // The number of fillings.
@@ -40,10 +34,9 @@ impl LabelBox {
         ensures value { result ≡ volume self.now.labels }
         ensures law { VolumeCounts }
     {
-        let mut v = 1u128;
-        for l in &self.labels {
-            v *= u128::from(l.count_ones());
-        }
-        v
+        self.labels
+            .iter()
+            .map(|l| u128::from(l.count_ones()))
+            .product()
     }
 }

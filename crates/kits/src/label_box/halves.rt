@@ -8,16 +8,12 @@ use crate::slot_number::SlotNumber;
 
 impl LabelBox {
     // Does the box hold one filling only?
+    #[tactic(auto, using(crate::proofs::HalfLaws::single_law))]
     pub fn is_single(&self) -> bool
         ensures value { result ≡ single self.now.labels }
         ensures law { SingleHoldsOne }
     {
-        for l in &self.labels {
-            if l.count_ones() != 1 {
-                return false;
-            }
-        }
-        true
+        self.labels.iter().all(|l| l.count_ones() == 1)
     }
 
     // The lowest slot with several members, unless the box is single.
@@ -25,12 +21,8 @@ impl LabelBox {
         ensures value { option_map (λ s. s.number) result ≡ open_slot self.now.labels }
         ensures law { OpenSlot }
     {
-        for (i, l) in self.labels.iter().enumerate() {
-            if l.count_ones() != 1 {
-                return SlotNumber::new(i as u32);
-            }
-        }
-        None
+        let place = self.labels.iter().position(|l| l.count_ones() != 1)?;
+        SlotNumber::new(place as u32)
     }
 
     // The open slot cut in two, unless the box is single: its lowest member alone, and its other members.

@@ -6,6 +6,15 @@ use super::LabelBox;
 use crate::label::Label;
 use crate::slot_number::SlotNumber;
 
+impl Default for LabelBox {
+    // The box with every slot empty: each label has 0 alone.
+    ghost is_default = { λ b. b.labels ≡ replicate 24 1 };
+
+    fn default() -> LabelBox {
+        LabelBox { labels: [1; 24] }
+    }
+}
+
 impl LabelBox {
     // The box with that label in each slot.
     pub fn whole(label: Label) -> LabelBox
@@ -20,12 +29,11 @@ impl LabelBox {
     pub fn new(labels: [u16; 24]) -> Option<LabelBox>
         ensures { option_map (λ b. b.labels) result ≡ (if all_some labels then Some labels else None) }
     {
-        for l in &labels {
-            if *l == 0 {
-                return None;
-            }
+        if labels.iter().all(|l| *l != 0) {
+            Some(LabelBox { labels })
+        } else {
+            None
         }
-        Some(LabelBox { labels })
     }
 
     pub fn label(&self, slot: SlotNumber) -> Label
@@ -36,6 +44,7 @@ impl LabelBox {
         }
     }
 
+    #[tactic(auto, using(crate::proofs::BoxLaws::boxed_set))]
     pub fn put(&mut self, slot: SlotNumber, label: Label)
         ensures { self.new.labels ≡ slice_set self.old.labels slot.number label.bits }
     {

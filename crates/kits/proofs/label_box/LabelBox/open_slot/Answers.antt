@@ -1,25 +1,21 @@
-use Rattle.std.proofs.Common.{◌≡◌, true, false, sym, refl, ◌∙◌, arith}
-use Rattle.std.proofs.lemmas.List.{at_drop_all}
+use Rattle.std.proofs.Common.{eqb, not, sym, ◌∙◌, rules}
+use borrow.Author.Tests.{tests}
+use lib.Count.{ones}
 use Rattle.std.proofs.lemmas.Bool.{lt-ltb}
-use Rattle.kits.specs.Boxes.{single, settled}
-use Rattle.kits.proofs.BoxLaws.{single_more, single_stop, settled_more, settled_stop, open_law}
+use Rattle.std.proofs.lemmas.Iterator.{YieldsList-from_slice}
+use Rattle.std.proofs.lemmas.Iterator.Search.{position_from_yields_List}
+use Rattle.kits.proofs.BoxLaws.{open_law, open_is}
 use Rattle.kits.proofs.label_box.LabelBox.open_slot.Goals as goal
 
-pub returns-then-l-ne1 : goal.returns-then-l-ne1
-returns-then-l-ne1 c =
+pub returns-in_err-place : goal.returns-in_err-place
+returns-in_err-place c =
     let b = c.args.self.now.labels in
-    let i = c.loop-i.i in
-    let s : single b ≡ false = sym c.loop-i.invariant.1 ∙ single_stop b i (omega arith) c.if-l-ne1.true in
-    let e : i ≡ settled b = omega (arith, settled_stop b i (omega arith) c.if-l-ne1.true) in
-    record { value = rw (s, ← e) (rw (lt-ltb i 24 (omega arith)) at c.new.ensures); law = open_law }
-
-pub loop-i-preserved : goal.loop-i-preserved
-loop-i-preserved c =
-    let b = c.args.self.now.labels in
-    let i = c.loop-i.i in
-    (omega (arith, settled_more b i (omega arith) c.if-l-ne1.false), single_more b i (omega arith) c.if-l-ne1.false ∙ c.loop-i.invariant.1)
+    let e = position_from_yields_List (λ l. not (eqb (ones l) 1)) _ _ c.position.result c.position.ensures.ran (YieldsList-from_slice b cc) (λ x t q k. search (rules, tests)) ∙ open_is b in
+    record { value = rw c.from_residual.ensures (sym c.in_err-place.was ∙ e); law = open_law }
 
 pub returns : goal.returns
 returns c =
-    let s : single c.args.self.now.labels ≡ true = sym c.loop-i.invariant.1 ∙ at_drop_all single c.args.self.now.labels c.loop-i.i (omega arith) in
-    record { value = rw s refl; law = open_law }
+    let b = c.args.self.now.labels in
+    let e = sym c.in_ok-place.was ∙ position_from_yields_List (λ l. not (eqb (ones l) 1)) _ _ c.position.result c.position.ensures.ran (YieldsList-from_slice b cc) (λ x t q k. search (rules, tests)) ∙ open_is b in
+    let h = open_law b c.in_ok-place.place c.args.self.now.boxed (sym e) in
+    record { value = rw (lt-ltb c.in_ok-place.place 24 h.within) at c.new.ensures ∙ e; law = open_law }
