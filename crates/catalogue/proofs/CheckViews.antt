@@ -1,33 +1,44 @@
 -- The checks on lists that slice patterns take apart.
-use Rattle.std.proofs.Common.{◌≡◌, ℕ, ◌<◌, true, false, ◌&&◌, ltb, leb, ◌⊎◌, List, [], ◌∷◌, map, length, get_or, refl, arith}
-use Rattle.fields.proofs.Views.{rest, rest_is}
-use Rattle.catalogue.specs.Lawful.{rising_after, rising, row_lawful}
+use Rattle.std.proofs.Common.{◌≡◌, ℕ, ◌<◌, Bool, true, false, not, ◌&&◌, ◌||◌, ltb, leb, List, [], ◌∷◌, map, length, get_or, refl, ap, ◌+◌, zero, suc, arith}
+use Rattle.std.specs.List.{IsAllAdjacentAnswer, zip}
+use Rattle.catalogue.specs.Lawful.{all, any, rising_after, rising, row_lawful}
 
-pub rising_after_some : (x : ℕ) (xs : List ℕ) → 0 < length xs → rising_after x xs ≡ (ltb x (get_or xs 0 0) && rising_after (get_or xs 0 0) (rest xs))
-rising_after_some x [] h = absurd (omega arith)
-rising_after_some x (y ∷ ys) h = rw (rest_is y ys)
+-- each number is below the next
+rises_from : (x : ℕ) (xs : List ℕ) → ((k : ℕ) → k < length xs → true ≡ ltb (get_or (x ∷ xs) k 0) (get_or (x ∷ xs) (k + 1) 0)) → true ≡ rising_after x xs
+rises_from x [] h = refl
+rises_from x (y ∷ ys) h = rw (← h 0 (omega arith)) (rises_from y ys (λ k l. let e : suc k + 1 ≡ suc (k + 1) = omega arith in rw e at (h (suc k) (omega arith))))
 
-pub rising_after_none : (x : ℕ) (xs : List ℕ) → length xs < 1 → rising_after x xs ≡ true
-rising_after_none x [] h = refl
-rising_after_none x (y ∷ ys) h = absurd (omega arith)
+falls_from : (x : ℕ) (xs : List ℕ) (k : ℕ) → k < length xs → false ≡ ltb (get_or (x ∷ xs) k 0) (get_or (x ∷ xs) (k + 1) 0) → false ≡ rising_after x xs
+falls_from x [] k l h = absurd (omega arith)
+falls_from x (y ∷ ys) zero l h = rw (← h)
+falls_from x (y ∷ ys) (suc k) l h =
+    let e : suc k + 1 ≡ suc (k + 1) = omega arith in
+    rw (← falls_from y ys k (omega arith) (rw e at h)) (grind arith)
 
-pub rising_some : (xs : List ℕ) → 0 < length xs → rising xs ≡ rising_after (get_or xs 0 0) (rest xs)
-rising_some [] h = absurd (omega arith)
-rising_some (x ∷ xs) h = rw (rest_is x xs)
+pub rises : (xs : List ℕ) (r : Bool) → IsAllAdjacentAnswer (λ x y b. b ≡ ltb x y) xs r → r ≡ rising xs
+rises [] true h = refl
+rises [] false h = absurd (omega (arith, h.1))
+rises (x ∷ xs) true h = rises_from x xs (λ k l. h k 0 (omega arith))
+rises (x ∷ xs) false h = falls_from x xs h.0 (omega (arith, h.1)) (h.2 0)
 
-module _ (f : ℕ → ℕ) where
-  pub row_some : (of row : List ℕ) → 0 < length of → 0 < length row → row_lawful (map f of) row ≡ ((leb 1 (get_or row 0 0) && leb (get_or row 0 0) (f (get_or of 0 0))) && row_lawful (map f (rest of)) (rest row))
-  row_some [] row h k = absurd (omega arith)
-  row_some (s ∷ of) [] h k = absurd (omega arith)
-  row_some (s ∷ of) (v ∷ row) h k = rw (rest_is s of, rest_is v row)
+-- a test that holds of no element
+pub none_holds : {X : Type 0} (p : X → Bool) (xs : List X) → not (any p xs) ≡ all (λ x. not (p x)) xs
+none_holds p [] = refl
+none_holds p (x ∷ xs) = go (p x) (none_holds p xs)
+  where
+    go : (b : Bool) → not (any p xs) ≡ all (λ x. not (p x)) xs → not (b || any p xs) ≡ (not b && all (λ x. not (p x)) xs)
+    go true e = refl
+    go false e = e
 
-  pub row_none : (of row : List ℕ) → length of < 1 → length row < 1 → row_lawful (map f of) row ≡ true
-  row_none [] [] h k = refl
-  row_none [] (v ∷ row) h k = absurd (omega arith)
-  row_none (s ∷ of) row h k = absurd (omega arith)
+-- a row and the slots that it fills, side by side
+pub row_beside : (f : ℕ → ℕ) (of row : List ℕ) → length of ≡ length row → row_lawful (map f of) row ≡ all (λ p. leb 1 p.1 && leb p.1 (f p.0)) (zip of row)
+row_beside f [] [] h = refl
+row_beside f [] (v ∷ row) h = absurd (omega arith)
+row_beside f (s ∷ of) [] h = absurd (omega arith)
+row_beside f (s ∷ of) (v ∷ row) h = ap (λ b. (leb 1 v && leb v (f s)) && b) (row_beside f of row (omega arith))
 
-  pub row_uneven : (of row : List ℕ) → ((length of < 1) × (0 < length row)) ⊎ ((0 < length of) × (length row < 1)) → row_lawful (map f of) row ≡ false
-  row_uneven [] [] h = absurd (omega arith)
-  row_uneven [] (v ∷ row) h = refl
-  row_uneven (s ∷ of) [] h = refl
-  row_uneven (s ∷ of) (v ∷ row) h = absurd (omega arith)
+pub row_uneven : (f : ℕ → ℕ) (of row : List ℕ) → (length of ≡ length row → ⊥) → false ≡ row_lawful (map f of) row
+row_uneven f [] [] h = absurd (h refl)
+row_uneven f [] (v ∷ row) h = refl
+row_uneven f (s ∷ of) [] h = refl
+row_uneven f (s ∷ of) (v ∷ row) h = rw (← row_uneven f of row (λ e. h (omega (arith, e)))) (grind arith)

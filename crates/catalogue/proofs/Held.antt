@@ -1,9 +1,7 @@
 -- The slots that a program holds, by their numbers.
-use Rattle.std.proofs.Common.{◌≡◌, ℕ, zero, suc, ◌<◌, ◌≤◌, List, [], ◌∷◌, length, get_or, refl, arith, length-take}
+use Rattle.std.proofs.Common.{◌≡◌, ℕ, zero, suc, ◌<◌, ◌≤◌, List, [], ◌∷◌, length, get_or, refl, arith}
 use Rattle.catalogue.specs.declared.model.Slot.{Slot}
-use Rattle.catalogue.specs.declared.slots.Slots.{Slots}
 use Rattle.catalogue.specs.Lawful.{offered}
-use Rattle.catalogue.specs.Listed.{listed}
 
 pub offered_at : (xs : List Slot) (n : ℕ) (d : Slot) → n < length xs → offered xs n ≡ (get_or xs n d).parts
 offered_at [] n d h = absurd (omega arith)
@@ -15,5 +13,5 @@ offered_past [] n h = refl
 offered_past (x ∷ xs) zero h = absurd (omega arith)
 offered_past (x ∷ xs) (suc n) h = offered_past xs n (omega arith)
 
-pub listed_few : (s : Slots) → length (listed s) ≤ 24
-listed_few s = let h = s.few in simp length-take (omega arith)
+-- how many parts are offered, by what is found at the place
+pub ruleset offers = (offered_at, offered_past)

@@ -3,10 +3,10 @@ pub mod CellViews
 pub mod CheckViews
 pub mod FormLaws
 pub mod Held
+pub mod Helds
+pub mod Keeping
 pub mod LawfulParts
 pub mod LineLaws
-pub mod Loops
-pub mod Puts
 pub mod ReadCalls
 pub mod ReadingLaws
 pub mod RuleTurns

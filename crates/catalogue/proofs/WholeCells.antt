@@ -4,7 +4,6 @@ use Rattle.std.specs.Option.{option_map}
 use Rattle.std.proofs.lemmas.List.{take_rest, drop_at, drop-drop}
 use Rattle.std.proofs.lemmas.Bool.{false≢true, cond-true, cond-false, cond_both}
 use Rattle.std.proofs.lemmas.Bool.Decides.{nat_tests}
-use Rattle.fields.proofs.Views.{rest}
 use Rattle.fields.specs.Results.{and_then}
 use Rattle.catalogue.specs.declared.model.Slot.{Slot}
 use Rattle.catalogue.specs.Catalogues.{Rule, Catalogue}
@@ -12,7 +11,7 @@ use Rattle.catalogue.specs.Cells.{slot_of, slot_first, slots_of, cut_cells, coun
 use Rattle.catalogue.specs.Lawful.{any}
 use Rattle.catalogue.specs.Listed.{slots_in}
 use Rattle.catalogue.proofs.CellLaws.{slots_say, cut_says, rules_say}
-use Rattle.catalogue.proofs.CellViews.{rest_after, counted_none, counted_some}
+use Rattle.catalogue.proofs.CellViews.{rest_after, counted_none}
 
 nothing : {T U : Type 0} (o : Option T) → ◌≡◌ {A = Option U} (and_then o (λ x. None)) None
 nothing None = refl
@@ -87,30 +86,30 @@ module _ (cs : List ℕ) {used : ℕ} (long : 1 < length cs) (second : used ≡ 
     catalogue_countless h = sym (catalogue_from ∙ rw (counted_none after h) (nothing (slots_of (length own) own)))
 
     -- where the count is found, and the mark is one of 16 bits
-    module _ (some : 0 < length after) (mark : get_or cs 0 0 ≤ 65535) where
-      weighed : catalogue_of cs ≡ cond (few cs (get_or after 0 0)) (and_then (slots_in own) (λ ss. option_map (with_rules (get_or cs 0 0) ss) (rules_of (get_or after 0 0) ss (rest after)))) None
-      weighed = catalogue_from ∙ rw (counted_some after some) (go (slots_of (length own) own) refl)
+    module _ {count : ℕ} {left : List ℕ} (is : after ≡ count ∷ left) (mark : get_or cs 0 0 ≤ 65535) where
+      weighed : catalogue_of cs ≡ cond (few cs count) (and_then (slots_in own) (λ ss. option_map (with_rules (get_or cs 0 0) ss) (rules_of count ss left))) None
+      weighed = catalogue_from ∙ rw is (go (slots_of (length own) own) refl)
         where
           go : (o : Option (List Slot × List ℕ)) → slots_of (length own) own ≡ o
-              → and_then o (λ s. and_then (rules_of (get_or after 0 0) s.0 (rest after)) (λ rs. lawful_head cs (with_rules (get_or cs 0 0) s.0 rs)))
-              ≡ cond (few cs (get_or after 0 0)) (and_then (and_then o (λ s. cond (leb (length own) 24 && any (λ x. x.standard) s.0) (Some s.0) None)) (λ ss. option_map (with_rules (get_or cs 0 0) ss) (rules_of (get_or after 0 0) ss (rest after)))) None
-          go None e = cond_both (few cs (get_or after 0 0)) None None (λ x. None ≡ x) (λ y. refl) (λ y. refl)
+              → and_then o (λ s. and_then (rules_of count s.0 left) (λ rs. lawful_head cs (with_rules (get_or cs 0 0) s.0 rs)))
+              ≡ cond (few cs count) (and_then (and_then o (λ s. cond (leb (length own) 24 && any (λ x. x.standard) s.0) (Some s.0) None)) (λ ss. option_map (with_rules (get_or cs 0 0) ss) (rules_of count ss left))) None
+          go None e = cond_both (few cs count) None None (λ x. None ≡ x) (λ y. refl) (λ y. refl)
           go (Some s) e =
               let size = (slots_say (length own) own s e).0 in
               let nonempty = any_some (λ x. x.standard) s.0 in
-              tested (few cs (get_or after 0 0)) (leb (length own) 24 && any (λ x. x.standard) s.0) _ (with_rules (get_or cs 0 0)) (λ ss. rules_of (get_or after 0 0) ss (rest after)) s.0 _ refl
-              (λ rs is. let count = (rules_say s.0 (get_or after 0 0) (rest after) rs is).0 in grind (arith, nat_tests))
+              tested (few cs count) (leb (length own) 24 && any (λ x. x.standard) s.0) _ (with_rules (get_or cs 0 0)) (λ ss. rules_of count ss left) s.0 _ refl
+              (λ rs found. let many = (rules_say s.0 count left rs found).0 in grind (arith, nat_tests))
 
-      pub catalogue_large : few cs (get_or after 0 0) ≡ false → None ≡ catalogue_of cs
+      pub catalogue_large : few cs count ≡ false → None ≡ catalogue_of cs
       catalogue_large e = sym (weighed ∙ cond-false _ _ _ e)
 
-      pub catalogue_whole : few cs (get_or after 0 0) ≡ true → and_then (slots_in own) (λ ss. option_map (with_rules (get_or cs 0 0) ss) (rules_of (get_or after 0 0) ss (rest after))) ≡ catalogue_of cs
+      pub catalogue_whole : few cs count ≡ true → and_then (slots_in own) (λ ss. option_map (with_rules (get_or cs 0 0) ss) (rules_of count ss left)) ≡ catalogue_of cs
       catalogue_whole e = sym (weighed ∙ cond-true _ _ _ e)
 
 -- the rules begin after the mark, the count of slots, the slots and the count of rules
-pub rules_begin : (cs : List ℕ) (used : ℕ) {own after : List ℕ} → Some (own, after) ≡ cut_cells used (rest_after 2 cs) → rest after ≡ drop (3 + length own) cs
-rules_begin cs used {own} {after} cut =
+pub rules_begin : (cs : List ℕ) (used : ℕ) {own after : List ℕ} {count : ℕ} {left : List ℕ} → Some (own, after) ≡ cut_cells used (rest_after 2 cs) → after ≡ count ∷ left → left ≡ drop (3 + length own) cs
+rules_begin cs used {own} {after} {count} {left} cut is =
     let b = cut_says used (rest_after 2 cs) (own, after) (sym cut) in
     let tail : after ≡ drop (length own) (drop 2 cs) = sym (drop_at own after (length own) refl) ∙ ap (drop (length own)) (b.1 ∙ take_rest cs 2) in
     let place : 2 + length own + 1 ≡ 3 + length own = omega arith in
-    take_rest after 1 ∙ ap (drop 1) tail ∙ ap (drop 1) (drop-drop (length own) 2 cs) ∙ drop-drop 1 (2 + length own) cs ∙ ap (λ (n : ℕ). drop n cs) place
+    sym (ap (drop 1) is) ∙ ap (drop 1) tail ∙ ap (drop 1) (drop-drop (length own) 2 cs) ∙ drop-drop 1 (2 + length own) cs ∙ ap (λ (n : ℕ). drop n cs) place

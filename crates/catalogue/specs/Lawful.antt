@@ -1,5 +1,6 @@
 -- Which catalogues are lawful.
-use Rattle.std.specs.Prelude.{ℕ, zero, suc, Bool, true, false, not, ◌&&◌, ◌||◌, ltb, List, [], ◌∷◌, map, length, ◌==◌, nat_le, nat_lt}
+use Rattle.std.specs.Prelude.{ℕ, zero, suc, Bool, true, false, not, ◌&&◌, ltb, List, [], ◌∷◌, map, length, ◌==◌, nat_le, nat_lt}
+use Rattle.std.specs.List.{list_all, list_any}
 use Rattle.catalogue.specs.declared.model.Kind.{Kind}
 use Rattle.catalogue.specs.declared.model.Kind.TheVariants.{Goes, Needs, Bars}
 use Rattle.catalogue.specs.declared.model.Slot.{Slot}
@@ -7,13 +8,11 @@ use Rattle.catalogue.specs.Catalogues.{Rule, Catalogue}
 
 -- does a test hold of each element?
 abbrev pub all : {X : Type 0} → (X → Bool) → List X → Bool
-all p [] = true
-all p (x ∷ xs) = p x && all p xs
+all p xs = list_all p xs
 
 -- does a test hold of some element?
 abbrev pub any : {X : Type 0} → (X → Bool) → List X → Bool
-any p [] = false
-any p (x ∷ xs) = p x || any p xs
+any p xs = list_any p xs
 
 -- a slot offers 1 to 15 parts
 abbrev pub slot_lawful : Slot → Bool

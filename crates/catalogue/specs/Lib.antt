@@ -8,3 +8,4 @@ pub mod Law
 pub mod Listed
 pub mod Headed
 pub mod Storing
+pub mod Keeping

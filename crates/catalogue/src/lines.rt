@@ -10,12 +10,12 @@ use crate::checks::{all_used, kind_fits, rise, row_fits, stands_apart};
 use crate::model::{Kind, Slot};
 use crate::slots::Slots;
 use fields::fault::{Fault, FaultKind};
-use fields::number::{number, only_number};
+use fields::number::{number, whole_number};
 use fields::numbers::{Numbers, past_space};
 use fields::reader::Reader;
-use fields::word::{past_word, same_bytes};
+use fields::word::past_word;
 
-// The line key=number, its number within bounds.
+// The line key=number, its number within bounds: two numbers, since a range that was iterated to its end holds none.
 pub(crate) fn number_line(
     reader: &mut Reader,
     key: &[u8],
@@ -27,17 +27,9 @@ pub(crate) fn number_line(
 {
     let line = reader.line();
     let value = reader.value_of(key)?;
-    let Some(n) = only_number(value) else {
-        return Err(Fault {
-            kind: FaultKind::WrongForm,
-            line,
-        });
-    };
-    if n < low || n > high {
-        return Err(Fault {
-            kind: FaultKind::OutOfRange,
-            line,
-        });
+    let n = whole_number(value, 99_999u32).ok_or(FaultKind::WrongForm.at(line))?;
+    if !(low..=high).contains(&n) {
+        return Err(FaultKind::OutOfRange.at(line));
     }
     Ok(n)
 }
@@ -46,9 +38,9 @@ pub(crate) fn number_line(
 fn is_standard(word: &[u8]) -> Option<bool>
     ensures { result ≡ standing word.now }
 {
-    if same_bytes(word, b"standard") {
+    if word == b"standard".as_slice() {
         Some(true)
-    } else if same_bytes(word, b"optional") {
+    } else if word == b"optional".as_slice() {
         Some(false)
     } else {
         None
@@ -56,10 +48,10 @@ fn is_standard(word: &[u8]) -> Option<bool>
 }
 
 // Parts and a word: how many, and whether the slot is standard.
-fn slot_of(text: &[u8]) -> Option<(u64, bool)>
+fn slot_of(text: &[u8]) -> Option<(u32, bool)>
     ensures { option_map (λ x. record { parts = x.0; standard = x.1 }) result ≡ slot_value text.now }
 {
-    let (parts, after) = number(text, 99_999)?;
+    let (parts, after) = number(text, 99_999u32)?;
     let word = past_space(after)?;
     Some((parts, is_standard(word)?))
 }
@@ -70,17 +62,9 @@ pub(crate) fn slot_line(reader: &mut Reader) -> Result<Slot, Fault>
 {
     let line = reader.line();
     let value = reader.value_of(b"slot")?;
-    let Some((parts, standard)) = slot_of(value) else {
-        return Err(Fault {
-            kind: FaultKind::WrongForm,
-            line,
-        });
-    };
-    if parts < 1 || parts > 15 {
-        return Err(Fault {
-            kind: FaultKind::OutOfRange,
-            line,
-        });
+    let (parts, standard) = slot_of(value).ok_or(FaultKind::WrongForm.at(line))?;
+    if !(1..=15).contains(&parts) {
+        return Err(FaultKind::OutOfRange.at(line));
     }
     Ok(Slot {
         parts: parts as u16,
@@ -92,19 +76,18 @@ pub(crate) fn slot_line(reader: &mut Reader) -> Result<Slot, Fault>
 fn word_number(word: &[u8], text: &[u8]) -> Option<u32>
     ensures { result ≡ word_number word.now text.now }
 {
-    only_number(past_space(past_word(text, word)?)?)
+    whole_number(past_space(past_word(text, word)?)?, 99_999u32)
 }
 
 fn kind_of(text: &[u8]) -> Option<Kind>
     ensures { result ≡ kind_value text.now }
 {
-    if same_bytes(text, b"goes") {
+    if text == b"goes".as_slice() {
         return Some(Kind::Goes);
     }
-    if let Some(t) = word_number(b"needs", text) {
-        return Some(Kind::Needs(t));
-    }
-    Some(Kind::Bars(word_number(b"bars", text)?))
+    word_number(b"needs", text)
+        .map(Kind::Needs)
+        .or_else(|| word_number(b"bars", text).map(Kind::Bars))
 }
 
 // The line that begins a rule: its kind, with t a used slot.
@@ -113,17 +96,9 @@ pub(crate) fn kind_line(reader: &mut Reader, used: u32) -> Result<Kind, Fault>
 {
     let line = reader.line();
     let value = reader.value_of(b"rule")?;
-    let Some(kind) = kind_of(value) else {
-        return Err(Fault {
-            kind: FaultKind::WrongForm,
-            line,
-        });
-    };
+    let kind = kind_of(value).ok_or(FaultKind::WrongForm.at(line))?;
     if !kind_fits(kind, used) {
-        return Err(Fault {
-            kind: FaultKind::OutOfRange,
-            line,
-        });
+        return Err(FaultKind::OutOfRange.at(line));
     }
     Ok(kind)
 }
@@ -134,29 +109,15 @@ pub(crate) fn of_line(reader: &mut Reader, used: u32, kind: Kind) -> Result<Numb
 {
     let line = reader.line();
     let value = reader.value_of(b"of")?;
-    let Some(slots) = Numbers::read(value) else {
-        return Err(Fault {
-            kind: FaultKind::WrongForm,
-            line,
-        });
-    };
+    let slots = Numbers::read(value).ok_or(FaultKind::WrongForm.at(line))?;
     if !all_used(slots.as_slice(), used) {
-        return Err(Fault {
-            kind: FaultKind::OutOfRange,
-            line,
-        });
+        return Err(FaultKind::OutOfRange.at(line));
     }
     if !rise(slots.as_slice()) {
-        return Err(Fault {
-            kind: FaultKind::SlotsNotRising,
-            line,
-        });
+        return Err(FaultKind::SlotsNotRising.at(line));
     }
     if !stands_apart(kind, slots.as_slice()) {
-        return Err(Fault {
-            kind: FaultKind::TargetAmongSlots,
-            line,
-        });
+        return Err(FaultKind::TargetAmongSlots.at(line));
     }
     Ok(slots)
 }
@@ -165,12 +126,7 @@ pub(crate) fn of_line(reader: &mut Reader, used: u32, kind: Kind) -> Result<Numb
 fn row_of(text: &[u8], wide: usize) -> Option<Numbers>
     ensures { option_map values_of result ≡ row_value wide text.now }
 {
-    let row = Numbers::read(text)?;
-    if row.as_slice().len() == wide {
-        Some(row)
-    } else {
-        None
-    }
+    Numbers::read(text).filter(|row| row.as_slice().len() == wide)
 }
 
 // A row's line: a part for each of the rule's slots, among those that the slot offers.
@@ -179,17 +135,9 @@ pub(crate) fn row_line(reader: &mut Reader, slots: &Slots, of: &[u32]) -> Result
 {
     let line = reader.line();
     let value = reader.value_of(b"row")?;
-    let Some(row) = row_of(value, of.len()) else {
-        return Err(Fault {
-            kind: FaultKind::WrongForm,
-            line,
-        });
-    };
+    let row = row_of(value, of.len()).ok_or(FaultKind::WrongForm.at(line))?;
     if !row_fits(slots, of, row.as_slice()) {
-        return Err(Fault {
-            kind: FaultKind::OutOfRange,
-            line,
-        });
+        return Err(FaultKind::OutOfRange.at(line));
     }
     Ok(row)
 }

@@ -1,16 +1,16 @@
-ghost use Rattle.std.specs.Prelude.{◌≡◌, ◌+◌, ◌*◌, ◌≤◌, map, IfOk};
+ghost use Rattle.std.specs.Prelude.{◌≡◌, ◌≤◌, map, IfOk};
 ghost use Rattle.std.specs.List.{flat_map};
 ghost use Rattle.fields.specs.Results.{mapped_ok, beside};
 ghost use Rattle.fields.specs.Values.{place_of};
-ghost use Rattle.catalogue.specs.Cells.{rule_cells};
+ghost use Rattle.catalogue.specs.Cells.{rule_cells, cells_of};
 ghost use Rattle.catalogue.specs.Lawful.{offered};
 ghost use Rattle.catalogue.specs.Listed.{listed};
 ghost use Rattle.catalogue.specs.Reading.{slots_lines, rows_lines, rule_lines, rules_lines, head_lines, reading};
-ghost use Rattle.catalogue.specs.Storing.{stored, kept};
+ghost use Rattle.catalogue.specs.Keeping.{kept, stored};
 
 use crate::lines::{kind_line, number_line, of_line, row_line, slot_line};
 use crate::slots::Slots;
-use crate::storing::{keep_all, keep_catalogue_head, keep_rule_head};
+use crate::storing::{Kept, keep_catalogue_head, keep_rule_head};
 use fields::fault::{Fault, FaultKind};
 use fields::reader::Reader;
 
@@ -26,63 +26,52 @@ fn slots_lines(reader: &mut Reader, used: u32) -> Result<Slots, Fault>
     Ok(slots)
 }
 
-// The lines of a rule's rows, their cells kept from `at` on; answers where these end.
-fn rows_lines(
+// The lines of a rule's rows, their cells kept.
+fn rows_lines<const N: usize>(
     reader: &mut Reader,
     slots: &Slots,
     of: &[u32],
     rows: u32,
-    out: &mut [u32],
-    at: usize,
-) -> Result<usize, Fault>
-    requires { (rows ≤ 255) × (at ≤ 100000) }
-    ensures within { IfOk result (λ end. end ≤ at + 4 * rows) }
-    ensures value { mapped_ok (λ end. (out.new, end, place_of reader.new)) result ≡ mapped_ok (stored (flat_map (λ row. row)) out.old at) (rows_lines rows (map (offered (listed slots.now)) of.now) (place_of reader.old)) }
+    out: &mut Kept<N>,
+) -> Result<(), Fault>
+    ensures { mapped_ok (λ _. (out.new, place_of reader.new)) result ≡ mapped_ok (stored (flat_map (λ row. row)) out.old) (rows_lines rows (map (offered (listed slots.now)) of.now) (place_of reader.old)) }
 {
-    let mut end = at;
     for _ in 0..rows {
         let row = row_line(reader, slots, of)?;
-        end = keep_all(out, end, row.as_slice());
+        out.extend(row.as_slice());
     }
-    Ok(end)
+    Ok(())
 }
 
-// A rule's lines, its cells kept from `at` on; answers where these end.
-fn rule_lines(
+// A rule's lines, its cells kept.
+fn rule_lines<const N: usize>(
     reader: &mut Reader,
     slots: &Slots,
-    out: &mut [u32],
-    at: usize,
-) -> Result<usize, Fault>
-    requires { at ≤ 90000 }
-    ensures within { IfOk result (λ end. end ≤ at + 1028) }
-    ensures value { mapped_ok (λ end. (out.new, end, place_of reader.new)) result ≡ mapped_ok (stored rule_cells out.old at) (rule_lines (listed slots.now) (place_of reader.old)) }
+    out: &mut Kept<N>,
+) -> Result<(), Fault>
+    ensures { mapped_ok (λ _. (out.new, place_of reader.new)) result ≡ mapped_ok (stored rule_cells out.old) (rule_lines (listed slots.now) (place_of reader.old)) }
 {
     let used = slots.used();
     let kind = kind_line(reader, used)?;
-    let numbers = of_line(reader, used, kind)?;
-    let of = numbers.as_slice();
+    let of = of_line(reader, used, kind)?;
     let rows = number_line(reader, b"rows", 0, 255)?;
-    let end = keep_rule_head(out, at, kind, of, rows);
-    rows_lines(reader, slots, of, rows, out, end)
+    keep_rule_head(out, kind, &of, rows);
+    rows_lines(reader, slots, of.as_slice(), rows, out)
 }
 
-// The lines of rules, their cells kept from `at` on; answers where these end.
-fn rules_lines(
+// The lines of rules, their cells kept.
+fn rules_lines<const N: usize>(
     reader: &mut Reader,
     slots: &Slots,
     rules: u32,
-    out: &mut [u32],
-    at: usize,
-) -> Result<usize, Fault>
-    requires { (rules ≤ 64) × (at ≤ 27) }
-    ensures value { mapped_ok (λ end. (out.new, end, place_of reader.new)) result ≡ mapped_ok (stored (flat_map rule_cells) out.old at) (rules_lines rules (listed slots.now) (place_of reader.old)) }
+    out: &mut Kept<N>,
+) -> Result<(), Fault>
+    ensures { mapped_ok (λ _. (out.new, place_of reader.new)) result ≡ mapped_ok (stored (flat_map rule_cells) out.old) (rules_lines rules (listed slots.now) (place_of reader.old)) }
 {
-    let mut end = at;
     for _ in 0..rules {
-        end = rule_lines(reader, slots, out, end)?;
+        rule_lines(reader, slots, out)?;
     }
-    Ok(end)
+    Ok(())
 }
 
 // What stands before the rules.
@@ -101,29 +90,22 @@ fn head_lines(reader: &mut Reader) -> Result<Head, Fault>
     let used = number_line(reader, b"slots", 1, 24)?;
     let slots = slots_lines(reader, used)?;
     if !slots.any_standard() {
-        return Err(Fault {
-            kind: FaultKind::NoStandardSlot,
-            line: 2 + used,
-        });
+        return Err(FaultKind::NoStandardSlot.at(2 + used));
     }
     let rules = number_line(reader, b"rules", 0, 64)?;
     Ok(Head { mark, slots, rules })
 }
 
-// A text's cells, kept as far as the buffer reaches; answers how many they are.
-pub(crate) fn read_text(text: &[u8], out: &mut [u32]) -> Result<usize, Fault>
-    ensures { beside result out.new ≡ mapped_ok (kept out.old) (reading text.now) }
+// A text's cells, kept.
+pub(crate) fn read_text<const N: usize>(text: &[u8], out: &mut Kept<N>) -> Result<(), Fault>
+    ensures { mapped_ok (λ _. out.new) result ≡ mapped_ok (λ c. kept out.old (cells_of c)) (reading text.now) }
 {
-    let mut reader = Reader::new();
-    reader.open(text)?;
+    let mut reader = Reader::open(text)?;
     let head = head_lines(&mut reader)?;
-    let at = keep_catalogue_head(out, head.mark, &head.slots, head.rules);
-    let end = rules_lines(&mut reader, &head.slots, head.rules, out, at)?;
+    keep_catalogue_head(out, head.mark, &head.slots, head.rules);
+    rules_lines(&mut reader, &head.slots, head.rules, out)?;
     if !reader.is_end() {
-        return Err(Fault {
-            kind: FaultKind::TextAfterEnd,
-            line: reader.line(),
-        });
+        return Err(FaultKind::TextAfterEnd.at(reader.line()));
     }
-    Ok(end)
+    Ok(())
 }

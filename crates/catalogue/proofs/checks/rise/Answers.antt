@@ -1,6 +1,7 @@
-use Rattle.std.proofs.Common.{arith}
-use Rattle.catalogue.proofs.CheckViews.{rising_some}
+use Rattle.std.proofs.Common.{ltb, rules}
+use Rattle.std.proofs.lemmas.List.Sorted.{answers_always}
+use Rattle.catalogue.proofs.CheckViews.{rises}
 use Rattle.catalogue.proofs.checks.rise.Goals as goal
 
-pub returns-in-len1-up : goal.returns-in-len1-up
-returns-in-len1-up c = grind (arith, rising_some)
+pub returns : goal.returns
+returns c = rises c.args.slots.now c.is_sorted_by.result (c.is_sorted_by.ensures.cases ltb (answers_always _ _ _ (λ f a r g h. search rules)))

@@ -1,17 +1,8 @@
-use Rattle.std.proofs.Common.{◌≡◌, ◌+◌, ◌-◌, [], take, drop, codes, arith}
-use Rattle.catalogue.specs.Cells.{rows_of}
-use Rattle.catalogue.specs.Writing.{line, list_text, rows_text}
-use Rattle.catalogue.proofs.Puts.{put_first}
+use Rattle.std.proofs.Common.{◌≡◌, ◌+◌, ◌-◌, sym, ap, ◌∙◌, arith}
+use Rattle.catalogue.specs.Storing.{held}
+use Rattle.catalogue.proofs.Helds.{held_none, held_then}
 use Rattle.catalogue.proofs.TextPieces.{rows_next, row_cells}
 use Rattle.catalogue.proofs.writing.put_rows.Goals as goal
-
-pub split_at-requires : goal.split_at-requires
-split_at-requires c = omega (arith, row_cells (c.args.count - c.loop.counter) c.args.wide (omega arith))
-
-pub put_list-end-requires : goal.put_list-end-requires
-put_list-end-requires c =
-    let next = rows_next (c.args.count - c.loop.counter) c.args.wide c.loop.left.now (omega arith) in
-    rw c.split_at.ensures.front (omega arith)
 
 pub loop-preserved : goal.loop-preserved
 loop-preserved c =
@@ -20,8 +11,11 @@ loop-preserved c =
     let cells = row_cells n c.args.wide (omega arith) in
     rw m (
       omega arith,
-      rw c.split_at.ensures.back
-          (put_first _ _ (line (list_text (codes "row") (take c.args.wide c.loop.left.now)) []) (rows_text (rows_of (n - 1) c.args.wide (drop c.args.wide c.loop.left.now)) [])
-          (rw c.split_at.ensures.front at c.put_list-end.ensures)
-          _ (rows_next n c.args.wide c.loop.left.now (omega arith)) c.loop.invariant.1),
+      rw (c.put_list.ensures, held_then, c.split_at.ensures.front, c.split_at.ensures.back)
+          (sym (ap (held 65536 c.loop.out.items) (rows_next n c.args.wide c.loop.left.now (omega arith))) ∙ c.loop.invariant.1),
     )
+
+pub returns : goal.returns
+returns c =
+    let e : c.args.count - c.loop.counter ≡ 0 = omega arith in
+    sym (held_none 65536 c.loop.out.items) ∙ (rw e at c.loop.invariant.1)

@@ -1,0 +1,47 @@
+-- What is held of items that come piece by piece.
+use Rattle.std.proofs.Common.{◌≡◌, ℕ, zero, suc, ◌+◌, ◌-◌, ◌<◌, ◌≤◌, List, [], ◌∷◌, ◌++◌, length, get_or, drop, take, min, Ok, Err, Result, IsOk, OnOk, sym, refl, ap, ◌∙◌, append_assoc, append-nil, arith, length-append, length-take}
+use Rattle.std.proofs.lemmas.List.{take_all, take_min, at_drop_more}
+use Rattle.std.proofs.Math.Seq.{take-nil}
+use Rattle.catalogue.specs.Storing.{held}
+
+take_both : {T : Type 0} (n : ℕ) (xs ys : List T) → take n (xs ++ ys) ≡ take n xs ++ take (n - length xs) ys
+take_both zero xs ys = let e : 0 - length xs ≡ 0 = omega arith in rw e
+take_both (suc n) [] ys = let e : suc n - 0 ≡ suc n = omega arith in rw e
+take_both (suc n) (x ∷ xs) ys =
+    let e : suc n - suc (length xs) ≡ n - length xs = omega arith in
+    rw e (ap (λ zs. x ∷ zs) (take_both n xs ys))
+
+pub held_none : {T : Type 0} (n : ℕ) (old : List T) → held n old [] ≡ old
+unfolding held
+held_none n old = rw take-nil (append-nil old)
+
+pub held_then : {T : Type 0} (n : ℕ) (old xs ys : List T) → held n (held n old xs) ys ≡ held n old (xs ++ ys)
+unfolding held
+held_then n old xs ys =
+    let e : n - length (old ++ take (n - length old) xs) ≡ n - length old - length xs =
+    omega (arith, length-append old (take (n - length old) xs), length-take (n - length old) xs) in
+    rw (e, append_assoc, take_both (n - length old) xs ys)
+
+-- where there is room
+pub held_fits : {T : Type 0} (n : ℕ) (old xs : List T) → length old + length xs ≤ n → held n old xs ≡ old ++ xs
+unfolding held
+held_fits n old xs h = ap (λ ys. old ++ ys) (take_all _ xs (omega arith))
+
+-- where there is none
+pub held_full : {T : Type 0} (n : ℕ) (old xs : List T) → n ≤ length old → held n old xs ≡ old
+unfolding held
+held_full n old xs h = let e : n - length old ≡ 0 = omega arith in rw e (append-nil old)
+
+-- a turn of a loop that goes over the items
+pub turn_room : {T : Type 0} (n : ℕ) (old xs : List T) (i : ℕ) (x : T) → i < length xs → x ≡ get_or xs i x → length old < n → held n (old ++ x ∷ []) (drop (i + 1) xs) ≡ held n old (drop i xs)
+turn_room n old xs i x h is room =
+    ap (λ ys. held n ys (drop (i + 1) xs)) (sym (held_fits n old (x ∷ []) (omega arith)))
+    ∙ held_then n old (x ∷ []) (drop (i + 1) xs)
+    ∙ ap (λ y. held n old (y ∷ drop (i + 1) xs)) is
+    ∙ sym (at_drop_more (held n old) xs i x h)
+
+pub turn_full : {T : Type 0} (n : ℕ) (old xs ys : List T) → n ≤ length old → held n old xs ≡ held n old ys
+turn_full n old xs ys h = held_full n old xs h ∙ sym (held_full n old ys h)
+
+-- texts that come one after another
+pub ruleset joins = (held_then, held_none, append_assoc)
