@@ -1,5 +1,5 @@
 // What a line of an order text asks of a sheet.
-#[derive(Clone, Copy)]
+#[derive(Clone, Copy, PartialEq, Eq, Debug)]
 pub enum Order {
     Enter(u32),
     Withdraw(u32),

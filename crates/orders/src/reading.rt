@@ -1,4 +1,4 @@
-ghost use Rattle.std.specs.Prelude.{◌≡◌, ◌≤◌, IfSome};
+ghost use Rattle.std.specs.Prelude.{◌≡◌};
 ghost use Rattle.std.specs.Option.{option_map};
 ghost use Rattle.fields.specs.Values.{line_of};
 ghost use Rattle.orders.specs.Law.{ReadsOrders};
@@ -6,27 +6,22 @@ ghost use Rattle.orders.specs.OrderLines.{line_order, first_order, OrdersInTurn}
 ghost use Rattle.orders.specs.Orders.{keyed_number, number_then, number_order, fix_order, rejoin_order, order_of};
 
 use crate::order::Order;
+use fields::natural::Natural;
 use fields::number::{number, whole_number};
 use fields::numbers::past_space;
 use fields::text_line::{TextLine, first_line};
 use fields::word::past_key;
 
-const MOST: u64 = 4_294_967_295;
-
-const MOST_SET: u64 = 18_446_744_073_709_551_615;
-
 // The number of a line key=number.
 fn keyed_number(line: &[u8], key: &[u8]) -> Option<u32>
     ensures { result ≡ keyed_number key.now line.now }
 {
-    let n = whole_number(past_key(line, key)?, MOST)?;
-    Some(n as u32)
+    whole_number(past_key(line, key)?, u32::MAX)
 }
 
 // The number at the front, and what follows it and one space.
-fn number_then(text: &[u8], max: u64) -> Option<(u64, &[u8])>
-    ensures within { IfSome result (λ x. x.0 ≤ max) }
-    ensures value { option_map (λ x. (x.0, x.1.now)) result ≡ number_then max text.now }
+fn number_then<N: Natural>(text: &[u8], max: N) -> Option<(N, &[u8])>
+    ensures { option_map (λ x. (N.value x.0, x.1.now)) result ≡ number_then (N.value max) text.now }
 {
     let (n, after) = number(text, max)?;
     Some((n, past_space(after)?))
@@ -36,58 +31,31 @@ fn number_then(text: &[u8], max: u64) -> Option<(u64, &[u8])>
 fn fix_order(line: &[u8]) -> Option<Order>
     ensures { result ≡ fix_order line.now }
 {
-    let (slot, rest) = number_then(past_key(line, b"fix")?, MOST)?;
-    let part = whole_number(rest, MOST)?;
-    Some(Order::Fix {
-        slot: slot as u32,
-        part: part as u32,
-    })
+    let (slot, rest) = number_then(past_key(line, b"fix")?, u32::MAX)?;
+    let part = whole_number(rest, u32::MAX)?;
+    Some(Order::Fix { slot, part })
 }
 
 // The order of a line rejoin=mark set set.
 fn rejoin_order(line: &[u8]) -> Option<Order>
     ensures { result ≡ rejoin_order line.now }
 {
-    let (mark, sets) = number_then(past_key(line, b"rejoin")?, MOST)?;
-    let (force, rest) = number_then(sets, MOST_SET)?;
-    let gone = whole_number(rest, MOST_SET)?;
-    Some(Order::Rejoin {
-        mark: mark as u32,
-        force,
-        gone,
-    })
+    let (mark, sets) = number_then(past_key(line, b"rejoin")?, u32::MAX)?;
+    let (force, rest) = number_then(sets, u64::MAX)?;
+    let gone = whole_number(rest, u64::MAX)?;
+    Some(Order::Rejoin { mark, force, gone })
 }
 
 // The order of a line with one number.
 fn number_order(line: &[u8]) -> Option<Order>
     ensures { result ≡ number_order line.now }
 {
-    if let Some(rule) = keyed_number(line, b"enter") {
-        return Some(Order::Enter(rule));
-    }
-    if let Some(rule) = keyed_number(line, b"withdraw") {
-        return Some(Order::Withdraw(rule));
-    }
-    if let Some(slot) = keyed_number(line, b"bar") {
-        return Some(Order::Bar(slot));
-    }
-    if let Some(slot) = keyed_number(line, b"free") {
-        return Some(Order::Free(slot));
-    }
-    let budget = keyed_number(line, b"find")?;
-    Some(Order::Find(budget))
-}
-
-fn order_of(line: &[u8]) -> Option<Order>
-    ensures { result ≡ order_of line.now }
-{
-    if let Some(order) = number_order(line) {
-        return Some(order);
-    }
-    if let Some(order) = fix_order(line) {
-        return Some(order);
-    }
-    rejoin_order(line)
+    keyed_number(line, b"enter")
+        .map(Order::Enter)
+        .or_else(|| keyed_number(line, b"withdraw").map(Order::Withdraw))
+        .or_else(|| keyed_number(line, b"bar").map(Order::Bar))
+        .or_else(|| keyed_number(line, b"free").map(Order::Free))
+        .or_else(|| keyed_number(line, b"find").map(Order::Find))
 }
 
 // The order whose text the line is.
@@ -95,19 +63,22 @@ pub fn read_order(line: &[u8]) -> Option<Order>
     ensures value { result ≡ order_of line.now }
     ensures law { ReadsOrders }
 {
-    order_of(line)
+    number_order(line)
+        .or_else(|| fix_order(line))
+        .or_else(|| rejoin_order(line))
 }
 
 fn line_order(line: TextLine) -> Option<Order>
     ensures { result ≡ line_order (line_of line.entry) }
 {
     if line.ended && line.bytes.len() <= 80 {
-        order_of(line.bytes)
+        read_order(line.bytes)
     } else {
         None
     }
 }
 
+#[tactic(auto, using(crate::proofs::OrderTexts::orders_in_turn))]
 // The order that the first line of the text says, or none where it says none, and the text after that line.
 pub fn next_order(text: &[u8]) -> Option<(Option<Order>, &[u8])>
     ensures value { option_map (λ x. (x.0, x.1.now)) result ≡ first_order text.now }
