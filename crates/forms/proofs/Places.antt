@@ -17,6 +17,9 @@ standard_past [] n h = refl
 standard_past (x ∷ xs) zero h = absurd (omega arith)
 standard_past (x ∷ xs) (suc n) h = standard_past xs n (omega arith)
 
+-- is the slot standard, by what is found at the place
+pub ruleset is_standard = (standard_used, standard_past)
+
 pub lawful_at : (xs : List Slot) (n : ℕ) (d : Slot) → n < length xs → all slot_lawful xs ≡ true → slot_lawful (get_or xs n d) ≡ true
 lawful_at [] n d h e = absurd (omega arith)
 lawful_at (x ∷ xs) zero d h e = (and_parts (slot_lawful x) (all slot_lawful xs) e).0
@@ -35,3 +38,6 @@ pub label_past : (xs : List Slot) (n : ℕ) (c : Choice) → length xs ≤ n →
 label_past [] n c h = refl
 label_past (x ∷ xs) zero c h = absurd (omega arith)
 label_past (x ∷ xs) (suc n) c h = label_past xs n c (omega arith)
+
+-- the label of a slot, by what is found at the place
+pub ruleset slot_labels = (label_used, label_past)

@@ -1,7 +1,8 @@
-ghost use Rattle.std.specs.Prelude.{◌≡◌, ◌≤◌, true, take};
+ghost use Rattle.std.specs.Prelude.{◌≡◌, true};
+ghost use Rattle.catalogue.specs.Listed.{listed};
 ghost use Rattle.forms.specs.Forms.{form_lawful};
 
-use catalogue::model::Slot;
+use catalogue::slots::Slots;
 
 mod calls;
 mod opening;
@@ -10,8 +11,6 @@ mod taken;
 // Which of the 24 slots are used, the first ones, what each of them offers, and which are never empty.
 #[derive(Clone, Copy)]
 pub struct Form {
-    slots: [Slot; 24],
-    used: usize,
-    ghost few: { used ≤ 24 },
-    ghost lawful: { form_lawful (take used slots) ≡ true },
+    slots: Slots,
+    ghost lawful: { form_lawful (listed slots) ≡ true },
 }

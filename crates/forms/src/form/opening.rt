@@ -33,15 +33,14 @@ fn chosen_label(slot: Slot, choice: Choice) -> u16
 
 impl Form {
     // What a slot may take under a choice: an unused one only 0.
+    #[tactic(auto, using(crate::proofs::Places::slot_labels))]
     fn label(&self, slot: usize, choice: Choice) -> u16
         requires { choice_lawful choice ≡ true }
         ensures { result ≡ slot_label (used_slots self.now) slot choice }
     {
-        let list = self.as_slice();
-        if slot < list.len() {
-            chosen_label(list[slot], choice)
-        } else {
-            1
+        match self.slots.as_slice().get(slot) {
+            Some(slot) => chosen_label(*slot, choice),
+            None => 1,
         }
     }
 
@@ -51,12 +50,10 @@ impl Form {
         ensures law { OpeningMeans }
     {
         let mut labels = [0u16; 24];
+        // By the place, which a label depends on; of an array from a function of the place the proof did not close.
         for (i, choice) in choices.as_slice().iter().enumerate() {
             labels[i] = self.label(i, *choice);
         }
-        match LabelBox::new(labels) {
-            Some(opening) => opening,
-            None => unreachable(),
-        }
+        LabelBox::new(labels).unwrap()
     }
 }

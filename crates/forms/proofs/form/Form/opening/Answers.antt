@@ -1,9 +1,12 @@
 use Rattle.std.proofs.Common.{◌≡◌, ℕ, ◌≤◌, true, cond, List, length, get_or, take, Some, None, Option, sym, refl, ap, ◌∙◌, arith, length-set}
 use Rattle.std.proofs.lemmas.List.{take_all}
+use Rattle.std.proofs.lemmas.Option.{none-some, same_Some}
 use Rattle.catalogue.specs.declared.model.Slot.{Slot}
 use Rattle.kits.specs.declared.choices.Choice.{Choice}
 use Rattle.kits.specs.declared.choices.Choice.TheVariants.{Free}
 use Rattle.kits.specs.Boxes.{all_some}
+use Rattle.kits.specs.declared.label_box.LabelBox.{LabelBox}
+use Rattle.std.specs.Option.{IsSome, option_map}
 use Rattle.kits.proofs.ChoiceLaws.{lawful_at}
 use Rattle.forms.specs.Forms.{form_lawful}
 use Rattle.forms.specs.Opening.{slot_label, opening_box}
@@ -33,15 +36,19 @@ boxed slots cs labels i o l h g t e =
     let w : labels ≡ opening_box slots cs = sym (take_all i labels g) ∙ t ∙ take_all i (opening_box slots cs) (rw opening_length h) in
     e ∙ ap (λ (x : List ℕ). cond (all_some x) (Some x) None) w ∙ rw (opening_some slots cs (form_slots slots l)) refl
 
-pub unreachable-requires : goal.unreachable-requires
-unreachable-requires c =
+some_box : (o : Option LabelBox) (labels : List ℕ) → option_map (λ (b : LabelBox). b.labels) o ≡ Some labels → IsSome o
+some_box None labels e = absurd (none-some labels e)
+some_box (Some b) labels e = refl
+
+pub unwrap-requires : goal.unwrap-requires
+unwrap-requires c =
     let n = ap length c.as_slice-choice-items.ensures.value in
-    let e = boxed (used_slots c.args.self.now) c.args.choices.now.list c.loop-i.labels c.loop-i.i None c.args.self.now.lawful (omega arith) (omega (arith, c.loop-i.invariant.0)) c.loop-i.invariant.1 c.in-None.ensures in
-    let z : ◌≡◌ {A = ℕ} 0 1 = cc in
-    omega arith
+    some_box c.new.result _
+    (boxed (used_slots c.args.self.now) c.args.choices.now.list c.loop-i.labels c.loop-i.i _ c.args.self.now.lawful (omega arith) (omega (arith, c.loop-i.invariant.0)) c.loop-i.invariant.1 c.new.ensures)
 
 pub returns : goal.returns
 returns c =
     let n = ap length c.as_slice-choice-items.ensures.value in
-    let e = boxed (used_slots c.args.self.now) c.args.choices.now.list c.loop-i.labels c.loop-i.i (Some c.in-Some.opening.labels) c.args.self.now.lawful (omega arith) (omega (arith, c.loop-i.invariant.0)) c.loop-i.invariant.1 c.in-Some.ensures in
-    record { value = cc; law = opening_means }
+    let e = boxed (used_slots c.args.self.now) c.args.choices.now.list c.loop-i.labels c.loop-i.i _ c.args.self.now.lawful (omega arith) (omega (arith, c.loop-i.invariant.0)) c.loop-i.invariant.1 c.new.ensures in
+    let f : Some (c.unwrap.result.labels) ≡ Some (opening_box (used_slots c.args.self.now) c.args.choices.now.list) = rw c.unwrap.ensures at e in
+    record { value = same_Some _ _ f; law = opening_means }
