@@ -1,5 +1,5 @@
 -- Narrowing by a rule that wants a slot beside those of its rows to have a number of a mask.
-use Rattle.std.proofs.Common.{◌≡◌, ℕ, ◌<◌, Bool, true, false, cond, not, ◌||◌, eqb, List, length, get_or, set, Some, sym, refl, ap, ◌∙◌, subst, ⊎_elim, arith}
+use Rattle.std.proofs.Common.{◌≡◌, ℕ, ◌<◌, Bool, true, false, cond, not, ◌||◌, eqb, List, length, get_or, set, Some, sym, refl, ap, ◌∙◌, subst, inl, inr, ⊎_elim, arith}
 use lib.Bits.{bit_and, and_le_l}
 use Rattle.std.proofs.lemmas.List.{get_or-set_same, get_or-set_other, length-set}
 use Rattle.std.proofs.lemmas.Bool.{both_ways, eq-eqb, ne_eqb, eqb-true, cases_eq, or_left, or_right, or_cases, true≢false}
@@ -14,7 +14,7 @@ use Rattle.kits.proofs.HalfLaws.{lowest_held}
 use Rattle.rule_books.specs.Exact.{some_below, some_in, exact, Found}
 use Rattle.rule_books.specs.Rules.{at_slots, spares, kind_allows, rule_allows}
 use Rattle.rule_books.specs.Scope.{put_at, Within, Aside, Distinct}
-use Rattle.rule_books.specs.Narrowing.{slots_test, beside_test, Beside}
+use Rattle.rule_books.specs.Narrowing.{beside_test, Beside}
 use Rattle.rule_books.specs.SomeLaws.{no_true, below_yes, some_yes, some_says, member_small}
 use Rattle.rule_books.specs.ExactLaws.{in_length, put_in, small_set, exact_by, exact_all, exact_same}
 use Rattle.rule_books.proofs.ScopeLaws.{put_other, in_slots, small_slots, within_box, around}
@@ -47,9 +47,9 @@ module _ (r : Rule) (t mask : ℕ) (b : List ℕ) (o : Boxed b) (within : Within
   beside_all e =
       exact_all test b o.1 o.2 (λ f n. passes f (both (get_or f t 0) (subst (λ (y : ℕ). Has y (get_or f t 0)) (sym e) (in_at f b t at n))).1)
 
-  pub beside_none : bit_and (get_or b t 0) mask ≡ 0 → exact (beside_test t mask r) b ≡ exact (slots_test false r) b
+  pub beside_none : bit_and (get_or b t 0) mask ≡ 0 → exact (beside_test t mask r) b ≡ exact (λ f. spares r.rows (at_slots r.slots f)) b
   beside_none e =
-      exact_same test (slots_test false r) b o.2 (λ f n.
+      exact_same test (λ f. spares r.rows (at_slots r.slots f)) b o.2 (λ f n.
       or_false (spares r.rows (at_slots r.slots f)) (has_member mask (get_or f t 0)) (ne_eqb _ _ (λ m.
       let h : Has wanted (get_or f t 0) = (met (get_or b t 0) mask (get_or f t 0)).1 (in_at f b t at n, m) in
       omega (arith, bit_zero (get_or f t 0), subst (λ (y : ℕ). Has y (get_or f t 0)) e h))))
@@ -144,14 +144,14 @@ module _ (r : Rule) (t : ℕ) (b : List ℕ) (o : Boxed b) (beside : Beside r.ki
   -- a rule of kind needs or bars, and its mask
   pub needs_mask : r.kind ≡ Needs t → exact (rule_allows r) b ≡ exact (beside_test t 65534 r) b
   needs_mask e =
-      let h = (subst (λ (k : Kind). Beside k r.slots) e beside).0 in
+      let h = (beside t (inl e)).0 in
       ap (λ (k : Kind). exact (kind_allows k r.slots r.rows) b) e
       ∙ exact_same (kind_allows (Needs t) r.slots r.rows) (beside_test t 65534 r) b o.2
       (λ f n. ap (λ (x : Bool). spares r.rows (at_slots r.slots f) || x) (sym (filled_mask (get_or f t 0) (number_small f h n))))
 
   pub bars_mask : r.kind ≡ Bars t → exact (rule_allows r) b ≡ exact (beside_test t 1 r) b
   bars_mask e =
-      let h = (subst (λ (k : Kind). Beside k r.slots) e beside).0 in
+      let h = (beside t (inr e)).0 in
       ap (λ (k : Kind). exact (kind_allows k r.slots r.rows) b) e
       ∙ exact_same (kind_allows (Bars t) r.slots r.rows) (beside_test t 1 r) b o.2
       (λ f n. ap (λ (x : Bool). spares r.rows (at_slots r.slots f) || x) (sym (empty_mask (get_or f t 0) (number_small f h n))))

@@ -1,13 +1,18 @@
 -- Rows that cover all choices are no fewer than these.
-use Rattle.std.proofs.Common.{◌≡◌, ℕ, zero, suc, ◌+◌, ◌*◌, ◌/◌, ◌%◌, ◌^◌, ◌<◌, ◌≤◌, true, false, cond, not, ◌&&◌, eqb, List, [], ◌∷◌, length, get_or, drop, sym, refl, ap, ◌∙◌, subst, ⊎_elim, add-mul, one-mul, pow-suc, zero-mul, mul-add, arith}
+use Rattle.std.proofs.Common.{◌≡◌, ℕ, zero, suc, ◌+◌, ◌*◌, ◌/◌, ◌%◌, ◌^◌, ◌<◌, ◌≤◌, true, false, cond, not, ◌&&◌, eqb, List, [], ◌∷◌, map, fold, take, length, Option, sym, refl, ap, ◌∙◌, subst, ⊎_elim, add-mul, one-mul, pow-suc, zero-mul, mul-add, arith}
 use native.Mathlib.Nat.{pow-le-pow_right}
 use lib.Count.{ones, ones_step}
-use Rattle.std.proofs.lemmas.Nat.{mul-le}
+use Rattle.std.proofs.Math.Nat.{mul_assoc, mul-one}
+use Rattle.std.proofs.lemmas.Iterator.{YieldsList}
+use Rattle.std.proofs.lemmas.Iterator.Consumers.{YieldsList-so_far}
+use Rattle.std.proofs.lemmas.List.{map-id, take-map, get_or-take, length-take}
+use Rattle.std.specs.Iterator.{Yields}
+use Rattle.std.specs.Iterator.Runs.{EachRunFrom, YieldsRun}
 use Rattle.std.proofs.lemmas.Bool.{both_ways, eq-eqb, ne_eqb, cases_Bool, cases_eq, and_parts, or_cases, or_left, or_right, not_from_false, true≢false}
 use Rattle.kits.specs.Labels.{Has}
-use Rattle.kits.specs.Boxes.{In, Full, Small, volume}
+use Rattle.kits.specs.Boxes.{In, Small, volume}
 use Rattle.kits.proofs.LabelLaws.{bit_one, ones_zero}
-use Rattle.kits.proofs.BoxLaws.{volume_pos_drop, volume_small, volume_more}
+use Rattle.kits.proofs.BoxLaws.{volume_small}
 use Rattle.rule_books.specs.Rules.{is_row, same}
 use Rattle.rule_books.specs.Narrowing.{some_no_row}
 use Rattle.rule_books.specs.SomeLaws.{some_yes, small_tail}
@@ -143,11 +148,29 @@ no_row_left labels rows s h =
     )))
     (cases_Bool (some_no_row rows [] labels))
 
--- the choices that the first labels have are no more than all, which are few
-pub choices_fit : (labels : List ℕ) (choices i : ℕ) → length labels ≤ 4 → Full labels → Small labels → i < length labels → choices * volume (drop i labels) ≡ volume labels
-    → choices * ones (get_or labels i 0) ≤ 16 ^ 4
-choices_fit labels choices i few full small h e =
-    let x = choices * ones (get_or labels i 0) in
-    let m = mul-le x 1 x (volume (drop (i + 1) labels)) (omega arith) (volume_pos_drop labels (i + 1) full) in
-    let p : 16 ^ length labels ≤ 16 ^ 4 = pow-le-pow_right (omega arith) few in
-    omega (arith, m, p, volume_small labels small, volume_more labels choices i h e)
+-- the numbers of members multiplied
+product_from : (a : ℕ) (labels : List ℕ) → fold (λ n x. n * x) a (map ones labels) ≡ a * volume labels
+product_from a [] = sym (mul-one a)
+product_from a (l ∷ labels) = product_from (a * ones l) labels ∙ mul_assoc a (ones l) (volume labels)
+
+pub product_all : (labels : List ℕ) → fold (λ n x. n * x) 1 (map ones labels) ≡ volume labels
+product_all labels = product_from 1 labels ∙ one-mul (volume labels)
+
+small_take : (k : ℕ) (labels : List ℕ) → Small labels → Small (take k labels)
+small_take k labels s i h =
+    let m = length-take k labels in
+    subst (λ (x : ℕ). x < 2 ^ 16) (sym (get_or-take k labels i 0 (omega arith))) (s i (omega arith))
+
+-- of so few labels the first choices are few too
+pub product_fits : {S : Type 0} {steps : S → Option ℕ → S → Type 0} (labels : List ℕ) (s : S) → length labels ≤ 4 → Small labels → YieldsList steps (λ x. x) s (map ones labels)
+    → EachRunFrom steps s (λ p. fold (λ n x. n * x) 1 p.items < 2 ^ 64)
+unfolding YieldsRun
+product_fits {S} {steps} labels s few small chain = λ p _ at.
+    let xs = p.items in
+    let y = subst (λ u. Yields steps u xs p.gave.0.0) at p.gave.0.1 in
+    let k = length xs in
+    let e : xs ≡ map ones (take k labels) = sym (map-id xs) ∙ YieldsList-so_far chain xs p.gave.0.0 y ∙ take-map ones k labels in
+    let v : fold (λ n x. n * x) 1 xs ≡ volume (take k labels) = ap (fold (λ n x. n * x) 1) e ∙ product_all (take k labels) in
+    let h : length (take k labels) ≤ 4 = omega (arith, length-take k labels) in
+    let t : 16 ^ length (take k labels) ≤ 16 ^ 4 = pow-le-pow_right (omega arith) h in
+    omega (arith, v, t, volume_small (take k labels) (small_take k labels small))

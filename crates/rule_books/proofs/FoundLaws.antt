@@ -1,10 +1,12 @@
 -- What is found of a label, as the code works it out.
-use Rattle.std.proofs.Common.{◌≡◌, ℕ, zero, suc, ◌+◌, ◌*◌, ◌/◌, ◌%◌, ◌^◌, ◌<◌, ◌≤◌, max, Bool, true, false, cond, not, eqb, ◌⊎◌, List, [], ◌∷◌, ◌++◌, length, get_or, take, drop, set, sym, refl, ap, ◌∙◌, subst, inl, inr, ⊎_elim, suc-le-suc, le_of_suc-le-suc, arith}
+use Rattle.std.proofs.Common.{◌≡◌, ℕ, zero, suc, ◌+◌, ◌-◌, ◌*◌, ◌/◌, ◌%◌, ◌^◌, ◌<◌, ◌≤◌, max, Bool, true, false, cond, not, ◌&&◌, eqb, ◌⊎◌, List, [], ◌∷◌, ◌++◌, length, get_or, take, drop, set, sym, refl, ap, ◌∙◌, subst, inl, inr, ⊎_elim, zero-add, arith}
 use lib.Bits.{bit_and, bit_or, or_step, or_shifted_r}
-use Rattle.std.proofs.lemmas.List.{get_or-set_same, get_or-set_other, length-set, append_assoc, append-nil, at_drop_more, at_drop_all, take_more_set}
+use Rattle.std.proofs.lemmas.List.Folds.{Any-from_list_any, list_any_at}
+use Rattle.std.proofs.lemmas.List.FromFn.{length-enumerate_from, get_or-enumerate_from}
+use Rattle.std.specs.List.{enumerate_from}
+use Rattle.std.proofs.lemmas.List.{get_or_default, get_or_read, get_or-set_same, get_or-set_other, append_assoc, append-nil, take_all}
 use Rattle.std.proofs.lemmas.Nat.{and_mask, pow_below, or_lt}
-use Rattle.std.proofs.lemmas.Bool.{both_ways, eq-eqb, ne_eqb, eqb-true, eqb-false, cases_Bool, cases_eq, cases_lt, or_cases, or_left, or_right, true≢false}
-use Rattle.catalogue.specs.Cells.{rows_of}
+use Rattle.std.proofs.lemmas.Bool.{both_ways, eq-eqb, ne_eqb, eqb-true, eqb-false, cases_Bool, cases_eq, cases_lt, or_cases, and_parts, not-true, or_left, or_right, true≢false}
 use Rattle.kits.specs.Labels.{bit, Has, has_member}
 use Rattle.kits.specs.Boxes.{In, Full, Small, holds, lowest_filling}
 use Rattle.kits.proofs.LabelLaws.{bit_one, bit_pow, pow_bit, bit_beyond}
@@ -13,22 +15,17 @@ use Rattle.kits.proofs.HalfLaws.{held, lowest_held}
 use Rattle.rule_books.specs.Exact.{some_below, label_of, some_in, is_found, found_label}
 use Rattle.rule_books.specs.Rules.{some_empty, same, is_row, goes, spares}
 use Rattle.rule_books.specs.Narrowing.{supports, other_empty, some_no_row, no_row_with, is_spared}
-use Rattle.rule_books.specs.SomeLaws.{no_true, below_yes, below_says, below_same, label_small, label_says, same_label, member_small, some_same}
+use Rattle.rule_books.specs.SomeLaws.{no_true, below_same, label_small, label_says, same_label, member_small, small_tail, some_same}
 use Rattle.rule_books.specs.ExactLaws.{in_length, put_in, alone_in, small_set, found_yes, found_says}
 use Rattle.rule_books.proofs.RowLaws.{same_decides}
 
 pub empty_at : (g : List ℕ) (j : ℕ) → j < length g → get_or g j 0 ≡ 0 → some_empty g ≡ true
-empty_at [] j h e = absurd (omega arith)
-empty_at (v ∷ g) zero h e = or_left (eqb v 0) (some_empty g) (eq-eqb _ _ e)
-empty_at (v ∷ g) (suc j) h e = or_right (eqb v 0) (some_empty g) (empty_at g j (le_of_suc-le-suc h) e)
+empty_at g j h e = list_any_at (λ v. eqb v 0) g j 0 h (eq-eqb _ _ e)
 
 empty_says : (g : List ℕ) → some_empty g ≡ true → (j : ℕ) × ((j < length g) × (get_or g j 0 ≡ 0))
-empty_says [] t = absurd (true≢false (sym t))
-empty_says (v ∷ g) t =
-    ⊎_elim
-    (λ (e : eqb v 0 ≡ true). (0, (omega arith, eqb-true _ _ e)))
-    (λ (e : some_empty g ≡ true). let r = empty_says g e in (suc r.0, (suc-le-suc r.1.0, r.1.1)))
-    (or_cases (eqb v 0) (some_empty g) t)
+empty_says g t =
+    let r = Any-from_list_any (λ v. eqb v 0) g t in
+    (r.0, (r.2, get_or_default g r.0 0 r.1 r.2 ∙ r.3 ∙ eqb-true _ _ r.4))
 
 -- the members of either label
 bit_of_or : (v a b : ℕ) → bit v (bit_or a b) ≡ max (bit v a) (bit v b)
@@ -107,11 +104,13 @@ label_same (suc n) p q h = rw (h n (omega arith), label_same n p q (λ v g. h v 
 -- a label that another slot can be empty beside
 pub other_says : (labels : List ℕ) (place : ℕ) → other_empty labels place ≡ true → (j : ℕ) × ((j < length labels) × ((j ≡ place → ⊥) × Has (get_or labels j 0) 0))
 other_says labels place o =
-    let r = below_says (length labels) _ o in
-    ⊎_elim
-    (λ (e : eqb r.0 place ≡ true). absurd (true≢false (sym (rw e at r.1.1))))
-    (λ (e : eqb r.0 place ≡ false). (r.0, (r.1.0, (eqb-false _ _ e, eqb-true _ _ (rw e at r.1.1)))))
-    (cases_Bool (eqb r.0 place))
+    let r = Any-from_list_any (λ (p : ℕ × ℕ). not (eqb p.0 place) && has_member p.1 0) (enumerate_from 0 labels) o in
+    let j = r.0 in
+    let x = r.1 in
+    let h : j < length labels = omega (arith, r.2, length-enumerate_from 0 labels) in
+    let e : x ≡ (0 + j, get_or labels j x.1) = sym r.3 ∙ get_or-enumerate_from 0 labels j x h in
+    let t = and_parts _ _ r.4 in
+    (j, (h, (λ w. eqb-false _ _ (not-true _ t.0) (ap (λ (p : ℕ × ℕ). p.0) e ∙ zero-add j ∙ w), eqb-true _ _ (subst (λ (l : ℕ). has_member l 0 ≡ true) (get_or_read labels j x.1 h (ap (λ (p : ℕ × ℕ). p.1) e) 0) t.1))))
 
 -- where no other slot can be empty, an empty one is at the place
 pub only_here : (labels : List ℕ) (place : ℕ) (f : List ℕ) → other_empty labels place ≡ false → In f labels → some_empty f ≡ true → (place < length labels) × (get_or f place 0 ≡ 0)
@@ -123,7 +122,7 @@ only_here labels place f o n t =
     (λ (e : j ≡ place). subst (λ (y : ℕ). (y < length labels) × (get_or f y 0 ≡ 0)) e (w, r.1.1))
     (λ (e : j ≡ place → ⊥).
     let z : Has (get_or labels j 0) 0 = subst (λ (y : ℕ). Has (get_or labels j 0) y) r.1.1 (in_at f labels j w n) in
-    absurd (both_ways (other_empty labels place) o (below_yes (length labels) j _ w (rw (ne_eqb _ _ e, eq-eqb _ _ z) refl))))
+    absurd (both_ways (other_empty labels place) o (list_any_at _ (enumerate_from 0 labels) j (0, 0) (rw length-enumerate_from w) (rw (get_or-enumerate_from 0 labels j (0, 0) w, zero-add, ne_eqb j place e, eq-eqb _ _ z) refl))))
     (cases_eq j place)
 
 module _ (labels : List ℕ) (place : ℕ) (full : Full labels) (small : Small labels) (at : place < length labels) where
@@ -213,46 +212,29 @@ module _ (labels : List ℕ) (place : ℕ) (full : Full labels) (small : Small l
           (λ (e : has_member (get_or labels place 0) v ≡ false). rw e refl)
           (cases_Bool (has_member (get_or labels place 0) v))
 
-small_drop : (labels : List ℕ) (i : ℕ) → Small labels → Small (drop i labels)
-small_drop labels zero s = s
-small_drop [] (suc i) s = s
-small_drop (l ∷ labels) (suc i) s = small_drop labels i (λ k h. s (suc k) (suc-le-suc h))
-
 -- the search for a choice that is no row, by its next number and at its end
-module _ (rows : List (List ℕ)) (chosen labels : List ℕ) where
-  no_row_cons : (l : ℕ) (b : List ℕ) → Small b → some_no_row rows chosen (l ∷ b) ≡ some_below 16 (λ v. cond (has_member l v) (some_no_row rows (chosen ++ v ∷ []) b) false)
+module _ (rows : List (List ℕ)) (chosen : List ℕ) where
+  pub no_row_more : (labels : List ℕ) → 0 < length labels → Small labels → some_no_row rows chosen labels ≡ some_below 16 (no_row_with rows chosen (get_or labels 0 0) (take (length labels - 1) (drop 1 labels)))
   unfolding some_in
-  no_row_cons l b s =
-      below_same 16 _ _ (λ v h. ap (λ (t : Bool). cond (has_member l v) t false) (some_same (λ f. not (is_row rows (chosen ++ v ∷ f))) (λ f. not (is_row rows ((chosen ++ v ∷ []) ++ f))) b s (λ f n. ap (λ (x : List ℕ). not (is_row rows x)) (sym (append_assoc chosen (v ∷ []) f)))))
+  no_row_more [] h s = absurd (omega arith)
+  no_row_more (l ∷ others) h s =
+      let e : length others ≡ length (l ∷ others) - 1 = omega arith in
+      rw (take_all (length (l ∷ others) - 1) others (omega arith))
+      (below_same 16 _ _ (λ v h. ap (λ (t : Bool). cond (has_member l v) t false) (some_same (λ f. not (is_row rows (chosen ++ v ∷ f))) (λ f. not (is_row rows ((chosen ++ v ∷ []) ++ f))) others (small_tail l others s) (λ f n. ap (λ (x : List ℕ). not (is_row rows x)) (sym (append_assoc chosen (v ∷ []) f))))))
 
-  pub no_row_more : (at : ℕ) → Small labels → at < length labels → some_no_row rows chosen (drop at labels) ≡ some_below 16 (no_row_with rows chosen labels at)
-  no_row_more at small h = at_drop_more (some_no_row rows chosen) labels at 0 h ∙ no_row_cons (get_or labels at 0) (drop (at + 1) labels) (small_drop labels (at + 1) small)
-
-  -- what a call with v chosen next says
-  pub no_row_next : (next : List ℕ) (at v : ℕ) (r : Bool) → at < length next → take at next ≡ chosen → true ≡ has_member (get_or labels at 0) v
-      → r ≡ some_no_row rows (take (at + 1) (set next at v)) (drop (at + 1) labels) → no_row_with rows chosen labels at v ≡ r
-  no_row_next next at v r h e m s =
-      let q : take (at + 1) (set next at v) ≡ chosen ++ v ∷ [] = take_more_set next at v h ∙ ap (λ (x : List ℕ). x ++ v ∷ []) e in
-      rw (← m) (sym (s ∙ ap (λ (x : List ℕ). some_no_row rows x (drop (at + 1) labels)) q))
-
-  pub no_row_end : (at : ℕ) → length labels ≤ at → some_no_row rows chosen (drop at labels) ≡ not (is_row rows chosen)
+  pub no_row_end : some_no_row rows chosen [] ≡ not (is_row rows chosen)
   unfolding some_in
-  no_row_end at h = at_drop_all (some_no_row rows chosen) labels at h ∙ ap (λ (x : List ℕ). not (is_row rows x)) (append-nil chosen)
+  no_row_end = ap (λ (x : List ℕ). not (is_row rows x)) (append-nil chosen)
 
 -- the loop that makes a label, one number on
-label_more : (n : ℕ) (q : ℕ → Bool) → label_of (n + 1) q ≡ cond (q n) (label_of n q + 2 ^ n) (label_of n q)
+pub label_more : (n : ℕ) (q : ℕ → Bool) → label_of (n + 1) q ≡ cond (q n) (bit_or (label_of n q) (2 ^ n)) (label_of n q)
 unfolding label_of
-label_more n q = let e : n + 1 ≡ suc n = omega arith in rw e refl
-
-pub label_with : (n x y : ℕ) (q : ℕ → Bool) → x ≡ label_of n q → q n ≡ true → y ≡ bit_or x (2 ^ n) → y ≡ label_of (n + 1) q
-label_with n x y q e t u =
+label_more n q =
+    let e : n + 1 ≡ suc n = omega arith in
     let a : bit_or (label_of n q) (1 * 2 ^ n) ≡ 1 * 2 ^ n + label_of n q = or_shifted_r 1 n (label_of n q) (label_small n q) in
     let b : 1 * 2 ^ n ≡ 2 ^ n = omega arith in
-    let d : bit_or (label_of n q) (2 ^ n) ≡ 2 ^ n + label_of n q = rw b at a in
-    u ∙ rw e (d ∙ sym (label_more n q ∙ rw t (omega arith)))
-
-pub label_without : (n x y : ℕ) (q : ℕ → Bool) → x ≡ label_of n q → q n ≡ false → y ≡ x → y ≡ label_of (n + 1) q
-label_without n x y q e t u = u ∙ e ∙ sym (label_more n q ∙ rw t refl)
+    let d : bit_or (label_of n q) (2 ^ n) ≡ label_of n q + 2 ^ n = omega (arith, rw b at a) in
+    rw (e, d) refl
 
 pub spared_first : (rows : List (List ℕ)) (labels : List ℕ) (place : ℕ) → bit_and (get_or labels place 0) 1 ≡ label_of 1 (is_spared rows labels place)
 unfolding label_of
@@ -263,9 +245,3 @@ spared_first rows labels place =
     (λ (e : bit 0 l ≡ 1). rw (eq-eqb (l % 2) 1 e) (omega arith))
     (λ (e : bit 0 l ≡ 0). rw (ne_eqb (l % 2) 1 (λ x. absurd (omega arith))) (omega arith))
     (bit_one 0 l)
-
--- what a call on the labels with v alone at the place says
-pub spared_alone : (alone labels cells : List ℕ) (place v count : ℕ) (r : Bool) → alone ≡ set labels place (2 ^ v) → r ≡ some_no_row (rows_of count (length alone) cells) [] alone
-    → r ≡ some_no_row (rows_of count (length labels) cells) [] (set labels place (2 ^ v))
-spared_alone alone labels cells place v count r e h =
-    h ∙ ap (λ (y : List ℕ). some_no_row (rows_of count (length y) cells) [] y) e ∙ ap (λ (n : ℕ). some_no_row (rows_of count n cells) [] (set labels place (2 ^ v))) (length-set labels place (2 ^ v))

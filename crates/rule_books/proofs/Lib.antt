@@ -1,4 +1,3 @@
-pub mod ArrayLaws
 pub mod BesideLaws
 pub mod CountLaws
 pub mod FoundLaws
@@ -10,4 +9,3 @@ pub mod PlaceLaws
 pub mod Ready
 pub mod RowLaws
 pub mod ScopeLaws
-pub mod SlotLaws

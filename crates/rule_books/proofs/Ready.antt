@@ -1,9 +1,7 @@
 -- A lawful rule of cells is ready for narrowing.
-use Rattle.std.proofs.Common.{◌≡◌, ℕ, zero, suc, ◌+◌, ◌-◌, ◌*◌, ◌<◌, ◌≤◌, Bool, true, not, ◌&&◌, eqb, ltb, leb, List, [], ◌∷◌, map, length, get_or, take, drop, sym, subst, ⊎_elim, le_of_suc-le-suc, suc-mul, zero-mul, arith}
-use Rattle.std.proofs.lemmas.List.{get_or-take, get_or-drop}
-use Rattle.std.proofs.lemmas.Bool.{and_parts, cases_lt, leb-true, ltb-true, eqb-false, not-true, true≢false}
+use Rattle.std.proofs.Common.{◌≡◌, ℕ, zero, suc, ◌<◌, ◌≤◌, Bool, true, not, eqb, ltb, leb, List, [], ◌∷◌, map, length, get_or, sym, refl, inl, inr, le_of_suc-le-suc, arith}
+use Rattle.std.proofs.lemmas.Bool.{and_parts, leb-true, ltb-true, eqb-false, not-true, true≢false}
 use Rattle.catalogue.specs.declared.model.Kind.{Kind}
-use Rattle.catalogue.specs.declared.model.Kind.TheVariants.{Goes, Needs, Bars}
 use Rattle.catalogue.specs.declared.model.Slot.{Slot}
 use Rattle.catalogue.specs.Catalogues.{Rule}
 use Rattle.catalogue.specs.Cells.{rows_of}
@@ -13,10 +11,10 @@ use Rattle.catalogue.proofs.RuleWrites.{rule_sized}
 use Rattle.rule_books.specs.Scope.{Aside, Distinct}
 use Rattle.rule_books.specs.Narrowing.{Ready, Beside}
 
-all_at : (p : ℕ → Bool) (xs : List ℕ) (k : ℕ) → all p xs ≡ true → k < length xs → p (get_or xs k 0) ≡ true
-all_at p [] k e h = absurd (omega arith)
-all_at p (x ∷ xs) zero e h = (and_parts (p x) (all p xs) e).0
-all_at p (x ∷ xs) (suc k) e h = all_at p xs k (and_parts (p x) (all p xs) e).1 (le_of_suc-le-suc h)
+all_at : {X : Type 0} (p : X → Bool) (xs : List X) (k : ℕ) (d : X) → all p xs ≡ true → k < length xs → p (get_or xs k d) ≡ true
+all_at p [] k d e h = absurd (omega arith)
+all_at p (x ∷ xs) zero d e h = (and_parts (p x) (all p xs) e).0
+all_at p (x ∷ xs) (suc k) d e h = all_at p xs k d (and_parts (p x) (all p xs) e).1 (le_of_suc-le-suc h)
 
 -- rising numbers are distinct
 above : (x : ℕ) (xs : List ℕ) (k : ℕ) → rising_after x xs ≡ true → k < length xs → x < get_or xs k 0
@@ -44,35 +42,26 @@ offered_small (s ∷ slots) zero e =
     omega (arith, leb-true s.parts 15 p.1)
 offered_small (s ∷ slots) (suc n) e = offered_small slots n (and_parts (slot_lawful s) (all slot_lawful slots) e).1
 
-module _ (limit : ℕ → ℕ) (small : (n : ℕ) → limit n < 16) where
-  row_small : (own row : List ℕ) (k : ℕ) → row_lawful (map limit own) row ≡ true → k < length own → get_or row k 0 < 16
-  row_small [] row k e h = absurd (omega arith)
-  row_small (s ∷ own) [] k e h = absurd (true≢false (sym e))
-  row_small (s ∷ own) (v ∷ row) zero e h =
-      let p = and_parts (leb 1 v) (leb v (limit s)) (and_parts (leb 1 v && leb v (limit s)) (row_lawful (map limit own) row) e).0 in
-      omega (arith, leb-true v (limit s) p.1, small s)
-  row_small (s ∷ own) (v ∷ row) (suc k) e h = row_small own row k (and_parts (leb 1 v && leb v (limit s)) (row_lawful (map limit own) row) e).1 (le_of_suc-le-suc h)
+below_next : (v : ℕ) (row : List ℕ) → v < 16 → ((i : ℕ) → get_or row i 0 < 16) → (i : ℕ) → get_or (v ∷ row) i 0 < 16
+below_next v row h r zero = h
+below_next v row h r (suc i) = r i
 
-  rows_small : (own : List ℕ) (count : ℕ) (cells : List ℕ) (j : ℕ) → all (row_lawful (map limit own)) (rows_of count (length own) cells) ≡ true → j < count * length own → get_or cells j 0 < 16
-  rows_small own zero cells j e h = absurd (omega (arith, zero-mul (length own)))
-  rows_small own (suc count) cells j e h =
-      let wide = length own in
-      let p = and_parts (row_lawful (map limit own) (take wide cells)) (all (row_lawful (map limit own)) (rows_of count wide (drop wide cells))) e in
-      ⊎_elim
-      (λ (g : j < wide). subst (λ (x : ℕ). x < 16) (get_or-take wide cells j 0 g) (row_small own (take wide cells) j p.0 g))
-      (λ (g : wide ≤ j).
-      let i : wide + (j - wide) ≡ j = omega arith in
-      let r = rows_small own count (drop wide cells) (j - wide) p.1 (omega (arith, suc-mul count wide)) in
-      subst (λ (n : ℕ). get_or cells n 0 < 16) i (subst (λ (x : ℕ). x < 16) (get_or-drop wide cells (j - wide) 0) r))
-      (cases_lt j wide)
+row_sized : (limit : ℕ → ℕ) → ((n : ℕ) → limit n < 16) → (own row : List ℕ) → row_lawful (map limit own) row ≡ true → (length row ≡ length own) × ((i : ℕ) → get_or row i 0 < 16)
+row_sized limit small [] [] e = (refl, λ i. omega arith)
+row_sized limit small [] (v ∷ row) e = absurd (true≢false (sym e))
+row_sized limit small (s ∷ own) [] e = absurd (true≢false (sym e))
+row_sized limit small (s ∷ own) (v ∷ row) e =
+    let p = and_parts _ (row_lawful (map limit own) row) e in
+    let r = row_sized limit small own row p.1 in
+    let h = leb-true v (limit s) (and_parts (leb 1 v) _ p.0).1 in
+    (omega (arith, r.0), below_next v row (omega (arith, h, small s)) r.1)
 
 aside : (t : ℕ) (own : List ℕ) → all (λ s. not (eqb s t)) own ≡ true → Aside t own
-aside t own e k h = eqb-false (get_or own k 0) t (not-true _ (all_at (λ s. not (eqb s t)) own k e h))
+aside t own e k h = eqb-false (get_or own k 0) t (not-true _ (all_at (λ s. not (eqb s t)) own k 0 e h))
 
 beside : (used : ℕ) (kind : Kind) (own : List ℕ) → used ≤ 24 → kind_lawful used kind ≡ true → apart kind own ≡ true → Beside kind own
-beside used Goes own n e a = tt
-beside used (Needs t) own n e a = (omega (arith, ltb-true t used e), aside t own a)
-beside used (Bars t) own n e a = (omega (arith, ltb-true t used e), aside t own a)
+beside used kind own n e a t (inl k) = (omega (arith, ltb-true t used (rw k at e)), aside t own (rw k at a))
+beside used kind own n e a t (inr k) = (omega (arith, ltb-true t used (rw k at e)), aside t own (rw k at a))
 
 pub rule_ready : (slots : List Slot) (kind : Kind) (own rows : List ℕ) (count : ℕ) → length slots ≤ 24 → all slot_lawful slots ≡ true
     → rule_lawful slots (record { kind = kind; slots = own; rows = rows_of count (length own) rows }) ≡ true → Ready own count rows × Beside kind own
@@ -83,9 +72,10 @@ rule_ready slots kind own rows count few parts lawful =
       record {
         some_slot = of.some;
         few_slots = of.few;
-        within = λ k h. omega (arith, ltb-true (get_or own k 0) (length slots) (all_at (λ s. ltb s (length slots)) own k of.below h));
+        within = λ k h. omega (arith, ltb-true (get_or own k 0) (length slots) (all_at (λ s. ltb s (length slots)) own k 0 of.below h));
         distinct = rising_distinct own of.rises;
-        rows_in = ((rule_sized slots kind own rows count lawful).1, λ j h. rows_small (offered slots) (λ n. offered_small slots n parts) own count rows j r.rows h);
+        enough = (rule_sized slots kind own rows count lawful).1;
+        sized = λ k h. row_sized (offered slots) (λ n. offered_small slots n parts) own _ (all_at (row_lawful (map (offered slots) own)) (rows_of count (length own) rows) k [] r.rows h);
       },
       beside (length slots) kind own few r.kind of.without,
     )

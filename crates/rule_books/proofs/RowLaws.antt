@@ -1,82 +1,67 @@
--- Rows cut from cells.
-use Rattle.std.proofs.Common.{◌≡◌, ℕ, zero, suc, ◌+◌, ◌*◌, ◌^◌, ◌<◌, ◌≤◌, Bool, true, false, cond, ◌||◌, List, [], length, get_or, take, drop, Decides, sym, refl, ap, ◌∙◌, subst, le_of_suc-le-suc, suc-mul, zero-mul, arith, rules}
+-- The rows of a rule, as the code goes over them.
+use Rattle.std.proofs.Common.{◌≡◌, ℕ, zero, suc, ◌*◌, ◌^◌, ◌<◌, ◌≤◌, ◌&&◌, List, [], ◌∷◌, ◌++◌, length, get_or, take, drop, Decides, Some, Option, cond, sym, ap, ◌∙◌, refl, subst, suc-mul, arith, rules}
+use denote.Ref.{Bor}
 use lib.Bits.{bit_or}
-use Rattle.std.proofs.lemmas.List.{at_drop_more, at_drop_all, drop-drop, get_or-take, get_or-drop, length-take, length-drop}
-use Rattle.std.proofs.lemmas.Nat.{mul-le}
-use Rattle.std.proofs.lemmas.Bool.{both_ways}
+use Rattle.std.proofs.lemmas.Iterator.{YieldsList}
+use Rattle.std.proofs.lemmas.Iterator.Consumers.{YieldsList-turn}
+use Rattle.std.proofs.lemmas.List.Sums.{fold_more}
+use Rattle.std.proofs.lemmas.List.{take_at, drop_at, length-drop, get_or_default, length_push}
 use Rattle.std.proofs.lemmas.Slice.Eq.{compares_Decides}
+use Rattle.std.specs.declared.iter.Take.{Take}
+use Rattle.std.specs.declared.slice.ChunksExact.{ChunksExact}
+use Rattle.std.specs.Iterator.{Yields, AlwaysYields}
+use Rattle.std.specs.Iterator.Adapters.{take_source, take_count, take_steps}
+use Rattle.std.specs.Slice.Iter.{chunks_exact_rest, chunks_exact_size, chunks_exact_steps}
+use Rattle.std.specs.List.{list_all, zip}
 use Rattle.catalogue.specs.Cells.{rows_of}
-use Rattle.catalogue.proofs.CellLaws.{rows_count}
 use Rattle.kits.specs.Boxes.{holds}
-use Rattle.rule_books.specs.Rules.{is_row, same}
-use Rattle.rule_books.specs.Narrowing.{supports, RowsIn}
-use Rattle.rule_books.specs.SomeLaws.{no_true}
-
-pub row_end : (j count wide : ℕ) → j < count → j * wide + wide ≤ count * wide
-row_end j count wide h = omega (arith, mul-le (suc j) wide count wide h (omega arith), suc-mul j wide)
-
-row_of : (count wide : ℕ) (cells : List ℕ) (j : ℕ) → j < count → get_or (rows_of count wide cells) j [] ≡ take wide (drop (j * wide) cells)
-row_of zero wide cells j h = absurd (omega arith)
-row_of (suc count) wide cells zero h = let z : zero * wide ≡ 0 = zero-mul wide in rw z refl
-row_of (suc count) wide cells (suc j) h =
-    let e : wide + j * wide ≡ suc j * wide = omega (arith, suc-mul j wide) in
-    row_of count wide (drop wide cells) j (le_of_suc-le-suc h) ∙ ap (take wide) (drop-drop (j * wide) wide cells ∙ ap (λ (m : ℕ). drop m cells) e)
-
--- the row of number j, as the code takes it from the cells
-pub record RowAt (count wide j : ℕ) (cells r : List ℕ) : Type 0 where
-  pub value : r ≡ get_or (rows_of count wide cells) j []
-  pub long : length r ≡ wide
-  pub small : (i : ℕ) → i < wide → get_or r i 0 < 16
-
-pub row_at : (count wide j n : ℕ) (cells : List ℕ) → j < count → RowsIn count wide cells → n ≡ wide → RowAt count wide j cells (take n (drop (j * wide) cells))
-row_at count wide j n cells h r e =
-    let d = row_end j count wide h in
-    let l = r.0 in
-    record {
-      value = ap (λ (x : ℕ). take x (drop (j * wide) cells)) e ∙ sym (row_of count wide cells j h);
-      long = simp (length-take, length-drop) (omega arith);
-      small = λ i g.
-          let a : i < n = omega arith in
-          let b = get_or-take n (drop (j * wide) cells) i 0 a ∙ get_or-drop (j * wide) cells i 0 in
-          subst (λ (x : ℕ). x < 16) (sym b) (r.1 (j * wide + i) (omega arith));
-    }
+use Rattle.kits.specs.Labels.{has_member}
+use Rattle.rule_books.specs.Narrowing.{Sized, supports}
+use Rattle.rule_books.specs.Rules.{same}
 
 pub same_decides : (xs ys : List ℕ) → Decides (same xs ys) (xs ≡ ys)
 same_decides = compares_Decides same (search rules)
 
--- the loop over the rows, one row on and at its end
-module _ (count wide : ℕ) (cells : List ℕ) where
-  abbrev rows : List (List ℕ)
-  rows = rows_of count wide cells
+module _ (wide : ℕ) where
+  abbrev RowsYielded : ℕ → List ℕ → Take (ChunksExact ℕ) → Type 0
+  RowsYielded n cells s = AlwaysYields (take_steps (chunks_exact_steps {A = ℕ})) (λ (y : Bor (List ℕ)). y.now) s (rows_of n wide cells)
 
-  within : (j : ℕ) → j < count → j < length rows
-  within j h = rw (rows_count count wide cells) h
+  rows_all : (n : ℕ) (cells : List ℕ) (s : Take (ChunksExact ℕ)) → take_count s ≡ n → chunks_exact_size (take_source s) ≡ wide → chunks_exact_rest (take_source s) ≡ cells → n * wide ≤ length cells → RowsYielded n cells s
+  rows_all zero cells s c z r h = λ x t step. omega (arith, step.1)
+  rows_all (suc n) cells s c z r h = (
+    λ t step. let e = (step (omega arith)).1.0 in omega (arith, suc-mul n wide, ap length r),
+    λ x t step.
+        let e : x.now ++ chunks_exact_rest (take_source t) ≡ cells = sym step.0.1.0 ∙ r in
+        let l : length x.now ≡ wide = step.0.1.1 ∙ z in (
+          sym (take_at x.now (chunks_exact_rest (take_source t)) wide l) ∙ ap (take wide) e,
+          rows_all n (drop wide cells) t (omega (arith, step.1)) (step.0.0 ∙ z) (sym (drop_at x.now (chunks_exact_rest (take_source t)) wide l) ∙ ap (drop wide) e) (omega (arith, suc-mul n wide, length-drop wide cells)),
+        ),
+  )
 
-  past : (j : ℕ) → count ≤ j → length rows ≤ j
-  past j h = rw (rows_count count wide cells) h
+  -- the first chunks of cells that are long enough are rows
+  pub rows_yielded : (n : ℕ) (cells : List ℕ) (s : Take (ChunksExact ℕ)) → take_count s ≡ n → chunks_exact_size (take_source s) ≡ wide → chunks_exact_rest (take_source s) ≡ cells → n * wide ≤ length cells
+      → YieldsList (take_steps (chunks_exact_steps {A = ℕ})) (λ (y : Bor (List ℕ)). y.now) s (rows_of n wide cells)
+  rows_yielded n cells s c z r h = record { runs = rows_all n cells s c z r h }
 
-  module _ (g : List ℕ) where
-    is_row_drop : (j : ℕ) → j < count → is_row (drop j rows) g ≡ (same (get_or rows j []) g || is_row (drop (j + 1) rows) g)
-    is_row_drop j h = at_drop_more (λ (rs : List (List ℕ)). is_row rs g) rows j [] (within j h)
+pub zip_holds : (row labels : List ℕ) → length row ≡ length labels → list_all (λ (p : ℕ × ℕ). has_member p.1 p.0) (zip row labels) ≡ holds labels row
+zip_holds [] [] e = refl
+zip_holds [] (l ∷ labels) e = absurd (omega arith)
+zip_holds (v ∷ row) [] e = absurd (omega arith)
+zip_holds (v ∷ row) (l ∷ labels) e = ap (λ t. has_member l v && t) (zip_holds row labels (omega arith))
 
-    pub row_found : (j : ℕ) (r : List ℕ) (t : Bool) → j < count → r ≡ get_or (rows_of count wide cells) j [] → Decides t (r ≡ g) → t ≡ true → is_row (drop j (rows_of count wide cells)) g ≡ true
-    row_found j r t h e d y = rw ((same_decides (get_or rows j []) g).1 (sym e ∙ d.0 y)) at (is_row_drop j h)
+-- the loop over the rows has come to one
+pub row_turn : (wide n : ℕ) (cells : List ℕ) (s t u : Take (ChunksExact ℕ)) → take_count s ≡ n → chunks_exact_size (take_source s) ≡ wide → chunks_exact_rest (take_source s) ≡ cells
+    → n * wide ≤ length cells → Sized wide (rows_of n wide cells)
+    → (xs : List (Bor (List ℕ))) → Yields (take_steps (chunks_exact_steps {A = ℕ})) s xs t → (r : Option (Bor (List ℕ))) (x : Bor (List ℕ)) → r ≡ Some x → take_steps (chunks_exact_steps {A = ℕ}) t r u
+    → (length xs < length (rows_of n wide cells)) × (x.now ≡ get_or (rows_of n wide cells) (length xs) []) × (length x.now ≡ wide) × ((i : ℕ) → get_or x.now i 0 < 16)
+row_turn wide n cells s t u c z rest enough sized xs y r x e step =
+    let rows = rows_of n wide cells in
+    let h = YieldsList-turn (rows_yielded wide n cells s c z rest enough) xs t y r u x e step in
+    let f : get_or rows (length xs) [] ≡ x.now = get_or_default rows (length xs) [] x.now h.0 ∙ sym h.1 in
+    let k = sized (length xs) h.0 in
+    (h.0, sym f, subst (λ (g : List ℕ). length g ≡ wide) f k.0, λ i. subst (λ (g : List ℕ). get_or g i 0 < 16) f (k.1 i))
 
-    pub row_other : (j : ℕ) (r : List ℕ) (t : Bool) → j < count → r ≡ get_or (rows_of count wide cells) j [] → Decides t (r ≡ g) → t ≡ false → is_row (drop (j + 1) (rows_of count wide cells)) g ≡ is_row (drop j (rows_of count wide cells)) g
-    row_other j r t h e d y =
-        let z : same (get_or rows j []) g ≡ false = no_true _ (λ u. both_ways t y (d.1 (e ∙ (same_decides (get_or rows j []) g).0 u))) in
-        sym (rw z at (is_row_drop j h))
-
-    pub row_none : (j : ℕ) → count ≤ j → is_row (drop j (rows_of count wide cells)) g ≡ false
-    row_none j h = at_drop_all (λ (rs : List (List ℕ)). is_row rs g) rows j (past j h)
-
-  module _ (labels : List ℕ) (place : ℕ) where
-    pub supports_more : (x y j : ℕ) (r : List ℕ) → j < count → r ≡ get_or (rows_of count wide cells) j [] → y ≡ cond (holds labels r) (bit_or x (2 ^ get_or r place 0)) x
-        → supports labels place y (drop (j + 1) (rows_of count wide cells)) ≡ supports labels place x (drop j (rows_of count wide cells))
-    supports_more x y j r h e u =
-        let s = at_drop_more (λ (rs : List (List ℕ)). supports labels place x rs) rows j [] (within j h) in
-        let w = subst (λ (z : List ℕ). y ≡ cond (holds labels z) (bit_or x (2 ^ get_or z place 0)) x) e u in
-        ap (λ (z : ℕ). supports labels place z (drop (j + 1) rows)) w ∙ sym s
-
-    pub supports_end : (x j : ℕ) → count ≤ j → supports labels place x (drop j (rows_of count wide cells)) ≡ x
-    supports_end x j h = at_drop_all (λ (rs : List (List ℕ)). supports labels place x rs) rows j (past j h)
+pub supports_more : (labels : List ℕ) (place start : ℕ) (rows : List (List ℕ)) (xs : List (Bor (List ℕ))) (x : Bor (List ℕ)) (seen next : ℕ) → length xs < length rows → x.now ≡ get_or rows (length xs) []
+    → seen ≡ supports labels place start (take (length xs) rows) → next ≡ cond (holds labels x.now) (bit_or seen (2 ^ get_or x.now place 0)) seen
+    → next ≡ supports labels place start (take (length (xs ++ x ∷ [])) rows)
+supports_more labels place start rows xs x seen next h e s n = rw (n, e, s, length_push) (sym (fold_more _ start rows (length xs) [] h))

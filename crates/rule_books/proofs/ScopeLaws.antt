@@ -1,6 +1,6 @@
 -- A test that looks at some slots only narrows the box as it narrows the labels of these.
-use Rattle.std.proofs.Common.{◌≡◌, ℕ, zero, suc, ◌^◌, ◌<◌, Bool, true, false, ◌⊎◌, List, [], ◌∷◌, length, get_or, set, Some, sym, refl, ap, ◌∙◌, subst, inl, inr, ⊎_elim, suc-le-suc, le_of_suc-le-suc, arith}
-use Rattle.std.proofs.lemmas.List.{get_or-set_same, get_or-set_other, length-set, get_or-map, length-map}
+use Rattle.std.proofs.Common.{◌≡◌, ℕ, zero, suc, ◌+◌, ◌^◌, ◌<◌, Bool, true, false, ◌⊎◌, List, [], ◌∷◌, length, get_or, drop, set, Some, Option, sym, refl, ap, ◌∙◌, subst, inl, inr, ⊎_elim, suc-le-suc, le_of_suc-le-suc, arith}
+use Rattle.std.proofs.lemmas.List.{at_drop_more, get_or-set_same, get_or-set_other, length-set, get_or-map, length-map}
 use Rattle.std.proofs.lemmas.Bool.{both_ways, cases_Bool, cases_eq}
 use Rattle.std.specs.Option.{option_map}
 use Rattle.kits.specs.Labels.{Has}
@@ -23,6 +23,12 @@ put_other [] ls b i a = refl
 put_other (s ∷ slots) [] b i a = refl
 put_other (s ∷ slots) (l ∷ ls) b i a =
     put_other slots ls (set b s l) i (λ k h. a (suc k) (suc-le-suc h)) ∙ get_or-set_other b s i l 0 (λ e. a 0 (omega arith) (sym e))
+
+-- the loop that writes slots, one slot on
+pub put_more : (slots labels b : List ℕ) (i : ℕ) → i < length slots → i < length labels
+    → put_at (drop (i + 1) slots) (drop (i + 1) labels) (set b (get_or slots i 0) (get_or labels i 0)) ≡ put_at (drop i slots) (drop i labels) b
+put_more slots labels b i h g =
+    sym (at_drop_more (λ (x : List ℕ). put_at x (drop i labels) b) slots i 0 h ∙ at_drop_more (λ (y : List ℕ). put_at (get_or slots i 0 ∷ drop (i + 1) slots) y b) labels i 0 g)
 
 at_put : (slots ls b : List ℕ) → Distinct slots → Within (length b) slots → length ls ≡ length slots → at_slots slots (put_at slots ls b) ≡ ls
 at_put [] [] b d w e = refl
@@ -149,3 +155,9 @@ module _ (q : List ℕ → Bool) (slots b : List ℕ) (full : Full b) (small : S
       exact_none (λ f. q (at_slots slots f)) b (λ f n t. none (at_slots slots f) (in_slots f slots b within n) t)
       ∙ sym (ap (option_map (λ labels. put_at slots labels b)) (exact_none q (at_slots slots b) none)))
       (cases_Bool (some_in q (at_slots slots b)))
+
+-- the same, where the labels x of the slots have been read, and r is what narrowing makes of them
+pub narrowed_at_slots : (q : List ℕ → Bool) (slots b : List ℕ) → Boxed b → Within 24 slots → Distinct slots → (x : List ℕ) (r : Option (List ℕ)) → x ≡ at_slots slots b → r ≡ exact q x
+    → exact (λ f. q (at_slots slots f)) b ≡ option_map (λ labels. put_at slots labels b) r
+narrowed_at_slots q slots b o within distinct x r read h =
+    exact_at_slots q slots b o.1 o.2 (within_box slots b o within) distinct ∙ ap (option_map (λ labels. put_at slots labels b)) (ap (exact q) (sym read) ∙ sym h)

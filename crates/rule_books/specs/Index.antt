@@ -16,9 +16,9 @@ no_rule = record { kind = Goes; slots = []; rows = [] }
 abbrev pub Begins : List ℕ → ℕ → Rule → Type 0
 Begins cells place r = take (length (rule_cells r)) (drop place cells) ≡ rule_cells r
 
--- each rule of the list begins at its place
+-- as many places as rules, and each rule of the list begins at its place
 abbrev pub Placed : List ℕ → List ℕ → List Rule → Type 0
-Placed cells places rules = (r : ℕ) → r < length rules → Begins cells (slice_index places r) (slice_index_or rules r no_rule)
+Placed cells places rules = (length places ≡ length rules) × ((r : ℕ) → r < length rules → Begins cells (slice_index places r) (slice_index_or rules r no_rule))
 
 -- the places of the rules, where these are found
 abbrev pub PlacesFound : List ℕ → Option (List Rule) → Option (List ℕ) → Type 0

@@ -4,6 +4,7 @@ pub mod Tables
 pub mod Scope
 pub mod Narrowing
 pub mod Index
+pub mod Listed
 pub mod Books
 pub mod Conditional
 pub mod Meaning

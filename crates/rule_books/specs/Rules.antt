@@ -1,5 +1,6 @@
 -- Which fillings a table rule allows.
 use Rattle.std.specs.Prelude.{ℕ, Bool, true, false, not, ◌&&◌, ◌||◌, List, [], ◌∷◌, map, ◌==◌, slice_index}
+use Rattle.std.specs.List.{list_any}
 use Rattle.catalogue.specs.declared.model.Kind.{Kind}
 use Rattle.catalogue.specs.declared.model.Kind.TheVariants.{Goes, Needs, Bars}
 use Rattle.catalogue.specs.Catalogues.{Rule}
@@ -10,8 +11,7 @@ at_slots slots xs = map (λ s. slice_index xs s) slots
 
 -- is one of the slots empty?
 abbrev pub some_empty : List ℕ → Bool
-some_empty [] = false
-some_empty (v ∷ g) = v == 0 || some_empty g
+some_empty g = list_any (λ v. v == 0) g
 
 -- are the lists equal?
 abbrev pub same : List ℕ → List ℕ → Bool
@@ -22,8 +22,7 @@ same (x ∷ xs) (y ∷ ys) = x == y && same xs ys
 
 -- are the parts one of the rows?
 abbrev pub is_row : List (List ℕ) → List ℕ → Bool
-is_row [] g = false
-is_row (r ∷ rows) g = same r g || is_row rows g
+is_row rows g = list_any (λ r. same r g) rows
 
 -- one of the slots is empty, or their parts are a row
 abbrev pub goes : List (List ℕ) → List ℕ → Bool

@@ -1,8 +1,8 @@
 -- The rules that cells say, and the rule at a place.
-use Rattle.std.specs.Prelude.{◌≡◌, ℕ, zero, suc, ◌+◌, ◌-◌, ◌<◌, ◌≤◌, Bool, true, List, [], ◌∷◌, ◌++◌, length, take, drop, Some, None, Option, slice_index_or, slice_range, refl}
+use Rattle.std.specs.Prelude.{◌≡◌, ℕ, zero, suc, ◌<◌, ◌≤◌, Bool, true, List, [], ◌∷◌, ◌++◌, length, drop, Some, None, Option, slice_index_or, refl}
 use Rattle.std.proofs.Common.{sym, ap, ◌∙◌, le_of_suc-le-suc, arith}
 use Rattle.std.proofs.Math.Path.{fun_ext}
-use Rattle.std.proofs.lemmas.List.{take-append-drop, drop-take, length-take, length-drop}
+use Rattle.std.proofs.lemmas.List.{take-append-drop}
 use Rattle.std.proofs.lemmas.Bool.{and_parts, leb-true, lt-ltb}
 use Rattle.catalogue.specs.declared.model.Slot.{Slot}
 use Rattle.catalogue.specs.Catalogues.{Rule, Catalogue}
@@ -56,25 +56,13 @@ narrowed_at rules r x b h e =
     ∙ ap (λ (p : List ℕ → Bool). exact p b) (fun_ext (allows_at rules r h))
     ∙ rw (lt-ltb r (length rules) h) refl
 
-module _ (slots : List Slot) (cells : List ℕ) (long place : ℕ) (rule : Rule) (lawful : rule_lawful slots rule ≡ true) (begins : Begins (take long cells) place rule) where
+module _ (slots : List Slot) (cells : List ℕ) (place : ℕ) (rule : Rule) (lawful : rule_lawful slots rule ≡ true) (begins : Begins cells place rule) where
   abbrev n : ℕ
   n = length (rule_cells rule)
 
-  long_enough : n ≤ length (drop place (take long cells))
-  long_enough = omega (arith, length-take n (drop place (take long cells)), ap length begins)
-
-  -- the place is within the cells
-  pub place_within : place ≤ long
-  place_within = omega (arith, long_enough, length-drop place (take long cells), length-take long cells, some)
-    where
-      some : 3 ≤ length (rule_cells rule)
-      some = omega arith
-
   -- the rule is read at its place
-  pub rule_at : rule_begun (slice_range cells place long) ≡ Some (rule, drop n (drop place (take long cells)))
+  pub rule_at : rule_begun (drop place cells) ≡ Some (rule, drop (length (rule_cells rule)) (drop place cells))
   rule_at =
-      let e : place + (long - place) ≡ long = omega (arith, place_within) in
-      let part : take (long - place) (drop place cells) ≡ drop place (take long cells) = sym (drop-take place (long - place) cells) ∙ ap (λ (k : ℕ). drop place (take k cells)) e in
-      let whole : rule_cells rule ++ drop n (drop place (take long cells)) ≡ drop place (take long cells) =
-      ap (λ (xs : List ℕ). xs ++ drop n (drop place (take long cells))) (sym begins) ∙ take-append-drop n (drop place (take long cells)) in
-      ap rule_begun (part ∙ sym whole) ∙ rule_begins slots rule (drop n (drop place (take long cells))) lawful
+      let whole : rule_cells rule ++ drop n (drop place cells) ≡ drop place cells =
+      ap (λ (xs : List ℕ). xs ++ drop n (drop place cells)) (sym begins) ∙ take-append-drop n (drop place cells) in
+      ap rule_begun (sym whole) ∙ rule_begins slots rule (drop n (drop place cells)) lawful

@@ -1,4 +1,5 @@
 #![tactic(auto)]
 
+mod listed;
 mod narrowing;
 pub mod table_book;

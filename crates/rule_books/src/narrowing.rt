@@ -1,85 +1,70 @@
 ghost use Rattle.std.specs.Prelude.{◌≡◌, ◌<◌};
+ghost use Rattle.std.specs.Option.{option_map};
 ghost use Rattle.catalogue.specs.Listed.{rule_in};
-ghost use Rattle.kits.specs.Fits.{fit_of, box_or};
 ghost use Rattle.rule_books.specs.Exact.{some_in, exact};
-ghost use Rattle.rule_books.specs.Narrowing.{slots_test, beside_test, Ready, Beside};
+ghost use Rattle.rule_books.specs.Narrowing.{beside_test};
 ghost use Rattle.rule_books.specs.Rules.{at_slots, spares, rule_allows};
 ghost use Rattle.rule_books.specs.Scope.{Aside};
 
-use catalogue::cells::RuleCells;
 use catalogue::model::Kind;
-use choices::some_no_row;
-use kits::book::Fit;
+use kits::label::Label;
 use kits::label_box::LabelBox;
-use labels::{narrow_labels, other_empty};
-use slots::{label_at, labels_at, put_label, put_labels};
+use labelled::Labelled;
+pub(crate) use rule::TableRule;
+use rule::slot_number;
+use wants::{Goes, Spares, Wants};
 
 mod choices;
-mod labels;
+mod labelled;
 mod members;
-mod rows;
-mod slots;
+mod rule;
+mod wants;
 
 // Numbers that fill a slot.
 const FILLED: u16 = 0xfffe;
 // The number that leaves it empty.
 const EMPTY: u16 = 1;
 
-// Narrows the slots of a rule, where their parts are wanted to be a row, or else no row.
-fn narrow_slots(wanted: bool, rule: RuleCells, b: &mut LabelBox) -> Fit
-    requires { Ready rule.slots.now rule.count rule.rows.now }
-    ensures fit { result ≡ fit_of (exact (slots_test wanted (rule_in rule.entry)) b.old.labels) }
-    ensures after { b.new.labels ≡ box_or (exact (slots_test wanted (rule_in rule.entry)) b.old.labels) b.old.labels }
+// The slots of a rule narrowed to the parts that are wanted.
+fn narrow_slots<W: Wants>(rule: TableRule, b: &LabelBox) -> Option<LabelBox>
+    ensures { option_map (λ c. c.labels) result ≡ exact (λ f. W.passes (rule_in rule.entry.cells).rows (at_slots rule.entry.cells.slots.now f)) b.now.labels }
 {
-    let n = rule.slots.len();
-    let labels = labels_at(b, rule.slots);
-    match narrow_labels(wanted, &labels[..n], rule.count, rule.rows) {
-        None => Fit::Fails,
-        Some(left) => {
-            put_labels(b, rule.slots, &left[..n]);
-            Fit::Fits
-        }
-    }
+    let labelled = Labelled::of(rule, b).narrowed::<W>()?;
+    Some(labelled.put(b))
 }
 
 // Is some choice for the slots of a rule no row, or one of them empty?
-fn can_spare(rule: RuleCells, b: &LabelBox) -> bool
-    requires { Ready rule.slots.now rule.count rule.rows.now }
-    ensures { result ≡ some_in (spares (rule_in rule.entry).rows) (at_slots rule.entry.slots.now b.now.labels) }
+fn can_spare(rule: TableRule, b: &LabelBox) -> bool
+    ensures { result ≡ some_in (spares (rule_in rule.entry.cells).rows) (at_slots rule.entry.cells.slots.now b.now.labels) }
 {
-    let n = rule.slots.len();
-    let labels = labels_at(b, rule.slots);
-    other_empty(&labels[..n], n) || some_no_row(&labels[..n], rule.count, rule.rows)
+    let labelled = Labelled::of(rule, b);
+    labelled.other_empty(rule.cells.slots.len()) || labelled.some_no_row()
 }
 
 // Narrows by a rule that wants slot t to have a number of the mask where the parts are a row.
-fn narrow_beside(t: u32, mask: u16, rule: RuleCells, b: &mut LabelBox) -> Fit
-    requires { (Ready rule.slots.now rule.count rule.rows.now) × ((t < 24) × (Aside t rule.slots.now)) }
-    ensures fit { result ≡ fit_of (exact (beside_test t mask (rule_in rule.entry)) b.old.labels) }
-    ensures after { b.new.labels ≡ box_or (exact (beside_test t mask (rule_in rule.entry)) b.old.labels) b.old.labels }
+fn narrow_beside(t: u32, mask: u16, rule: TableRule, b: &LabelBox) -> Option<LabelBox>
+    requires { (t < 24) × (Aside t rule.cells.slots.now) }
+    ensures { option_map (λ c. c.labels) result ≡ exact (beside_test t mask (rule_in rule.entry.cells)) b.now.labels }
 {
-    let label = label_at(b, t);
-    let met = label & mask;
-    if met == label {
-        return Fit::Fits;
+    let slot = slot_number(t);
+    let label = b.label(slot);
+    let Some(met) = Label::new(label.bits() & mask) else {
+        return narrow_slots::<Spares>(rule, b);
+    };
+    if met.bits() == label.bits() || can_spare(rule, b) {
+        return Some(*b);
     }
-    if met == 0 {
-        return narrow_slots(false, rule, b);
-    }
-    if !can_spare(rule, b) {
-        put_label(b, t, met);
-    }
-    Fit::Fits
+    let mut narrowed = *b;
+    narrowed.put(slot, met);
+    Some(narrowed)
 }
 
-// Narrows the box by a rule, and leaves it where that fails.
-pub(crate) fn narrow_rule(rule: RuleCells, b: &mut LabelBox) -> Fit
-    requires { (Ready rule.slots.now rule.count rule.rows.now) × (Beside rule.kind rule.slots.now) }
-    ensures fit { result ≡ fit_of (exact (rule_allows (rule_in rule.entry)) b.old.labels) }
-    ensures after { b.new.labels ≡ box_or (exact (rule_allows (rule_in rule.entry)) b.old.labels) b.old.labels }
+// The box narrowed by a rule, or none where that fails.
+pub(crate) fn narrow_rule(rule: TableRule, b: &LabelBox) -> Option<LabelBox>
+    ensures { option_map (λ c. c.labels) result ≡ exact (rule_allows (rule_in rule.entry.cells)) b.now.labels }
 {
-    match rule.kind {
-        Kind::Goes => narrow_slots(true, rule, b),
+    match rule.cells.kind {
+        Kind::Goes => narrow_slots::<Goes>(rule, b),
         Kind::Needs(t) => narrow_beside(t, FILLED, rule, b),
         Kind::Bars(t) => narrow_beside(t, EMPTY, rule, b),
     }

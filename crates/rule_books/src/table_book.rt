@@ -1,18 +1,16 @@
-ghost use Rattle.std.specs.Prelude.{◌≡◌, ◌≤◌, length, take};
 ghost use Rattle.rule_books.specs.Index.{Placed};
+ghost use Rattle.rule_books.specs.Listed.{listed};
 ghost use Rattle.rule_books.specs.Tables.{table_rules};
+
+use crate::listed::Listed;
 
 mod made;
 mod rules;
 
-// The rules of a catalogue, by their cells: how many cells and rules there are, and where each rule begins.
+// The rules of a catalogue, by their cells, and where each rule begins: a rule is read at once, and not after those before it.
 #[derive(Clone, Copy)]
 pub struct TableBook {
-    cells: [u16; 8192],
-    long: usize,
-    places: [u16; 64],
-    count: u8,
-    ghost within: { long ≤ 8192 },
-    ghost counted: { count ≡ length (table_rules (take long cells)) },
-    ghost placed: { Placed (take long cells) places (table_rules (take long cells)) },
+    cells: Listed<8192>,
+    places: Listed<64>,
+    ghost placed: { Placed (listed cells) (listed places) (table_rules (listed cells)) },
 }

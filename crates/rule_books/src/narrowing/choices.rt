@@ -1,24 +1,27 @@
-ghost use Rattle.std.specs.Prelude.{◌≡◌, ◌≤◌, [], length, take, drop, nat_lt};
-ghost use Rattle.catalogue.specs.Cells.{rows_of};
-ghost use Rattle.kits.specs.Boxes.{Full, Small, volume};
-ghost use Rattle.rule_books.specs.Narrowing.{some_no_row, RowsIn};
+ghost use Rattle.std.specs.Prelude.{◌≡◌, ◌+◌, ◌≤◌, [], length, nat_lt};
+ghost use Rattle.catalogue.specs.Listed.{rule_in};
+ghost use Rattle.kits.specs.Boxes.{volume};
+ghost use Rattle.rule_books.specs.Listed.{listed};
+ghost use Rattle.rule_books.specs.Narrowing.{some_no_row};
 
+use super::labelled::Labelled;
 use super::members::has;
-use super::rows::is_row;
+use super::rule::TableRule;
+use crate::listed::Listed;
 
-// Is some choice from the labels, after the first `at` numbers of `chosen`, no row?
-fn no_row_after(labels: &[u16], at: usize, chosen: [u16; 4], count: usize, cells: &[u16]) -> bool
-    requires { (length labels.now ≤ 4) × ((at ≤ length labels.now) × (RowsIn count (length labels.now) cells.now)) }
-    ensures { result ≡ some_no_row (rows_of count (length labels.now) cells.now) (take at chosen) (drop at labels.now) }
+// Is some choice from the labels, after the numbers chosen, no row?
+fn no_row_after(rule: &TableRule, chosen: Listed<4>, labels: &[u16]) -> bool
+    requires { length (listed chosen) + length labels.now ≤ 4 }
+    ensures { result ≡ some_no_row (rule_in rule.now.cells).rows (listed chosen) labels.now }
 {
-    if at == labels.len() {
-        return !is_row(&chosen[..at], count, cells);
-    }
-    let mut next = chosen;
+    let [label, others @ ..] = labels else {
+        return !rule.has_row(chosen.as_slice());
+    };
     for v in 0..16u16 {
-        if has(labels[at], v) {
-            next[at] = v;
-            if no_row_after(labels, at + 1, next, count, cells) {
+        if has(*label, v) {
+            let mut next = chosen;
+            next.push(v);
+            if no_row_after(rule, next, others) {
                 return true;
             }
         }
@@ -26,25 +29,24 @@ fn no_row_after(labels: &[u16], at: usize, chosen: [u16; 4], count: usize, cells
     false
 }
 
-// Have the labels more choices than that?
-fn more_choices(labels: &[u16], count: usize) -> bool
-    requires { (length labels.now ≤ 4) × ((Full labels.now) × (Small labels.now)) }
-    ensures { result ≡ nat_lt count (volume labels.now) }
-{
-    let mut choices = 1;
-    for label in labels {
-        choices *= label.count_ones() as usize;
+impl Labelled<'_> {
+    // Have the labels more choices than the rule has rows?
+    fn more_choices(&self) -> bool
+        ensures { result ≡ nat_lt self.now.rule.cells.count (volume (listed self.now.labels)) }
+    {
+        let choices: usize = self
+            .labels
+            .as_slice()
+            .iter()
+            .map(|label| label.count_ones() as usize)
+            .product();
+        choices > self.rule.cells.count
     }
-    choices > count
-}
 
-// Is some choice from the labels no row?
-pub(crate) fn some_no_row(labels: &[u16], count: usize, cells: &[u16]) -> bool
-    requires { (length labels.now ≤ 4) × ((Full labels.now) × (RowsIn count (length labels.now) cells.now)) }
-    ensures { result ≡ some_no_row (rows_of count (length labels.now) cells.now) [] labels.now }
-{
-    if more_choices(labels, count) {
-        return true;
+    // Is some choice from the labels no row?
+    pub(crate) fn some_no_row(&self) -> bool
+        ensures { result ≡ some_no_row (rule_in self.now.rule.cells).rows [] (listed self.now.labels) }
+    {
+        self.more_choices() || no_row_after(&self.rule, Listed::none(), self.labels.as_slice())
     }
-    no_row_after(labels, 0, [0; 4], count, cells)
 }

@@ -1,41 +1,34 @@
-ghost use Rattle.std.specs.Prelude.{◌≡◌, ◌≤◌, [], length, take, MatchOption};
+ghost use Rattle.std.specs.Prelude.{◌≡◌, ◌≤◌, [], length, MatchOption};
+ghost use Rattle.std.specs.Option.{option_map};
 ghost use Rattle.catalogue.specs.Cells.{rules_of};
-ghost use Rattle.catalogue.specs.Listed.{listed};
+ghost use Rattle.catalogue.specs.Listed.{listed as slots_listed};
 ghost use Rattle.rule_books.specs.Books.{book_rules};
 ghost use Rattle.rule_books.specs.Exact.{ExactMeans};
 ghost use Rattle.rule_books.specs.Index.{Last, PlacesFound};
+ghost use Rattle.rule_books.specs.Listed.{listed};
 ghost use Rattle.rule_books.specs.Meaning.{KitsAreSolutions};
 ghost use Rattle.rule_books.specs.Tables.{table_rules};
 
 use super::TableBook;
+use crate::listed::Listed;
 use catalogue::cells::{slots_of_cells, take_catalogue, take_rule};
 use catalogue::slots::Slots;
 
 // Where each of so many lawful rules begins, which are the last of the cells.
-fn find_places(cells: &[u16], rules: &[u16], count: u16, slots: &Slots) -> Option<[u16; 64]>
+fn find_places(cells: &[u16], rules: &[u16], count: u16, slots: &Slots) -> Option<Listed<64>>
     requires few { count ≤ 64 }
     requires within { length cells.now ≤ 8192 }
     requires last { Last rules.now cells.now }
-    ensures { PlacesFound cells.now (rules_of count (listed slots.now) rules.now) result }
+    ensures { PlacesFound cells.now (rules_of count (slots_listed slots.now) rules.now) (option_map listed result) }
 {
-    let mut places = [0u16; 64];
+    let mut places = Listed::none();
     let mut left = rules;
-    for i in 0..count {
-        places[usize::from(i)] = (cells.len() - left.len()) as u16;
+    for _ in 0..count {
+        places.push((cells.len() - left.len()) as u16);
         let (_, after) = take_rule(left, slots)?;
         left = after;
     }
-    if left.is_empty() { Some(places) } else { None }
-}
-
-// The cells at the front of as many as a catalogue may have.
-fn padded(cells: &[u16]) -> [u16; 8192]
-    requires { length cells.now ≤ 8192 }
-    ensures { take (length cells.now) result ≡ cells.now }
-{
-    let mut all = [0u16; 8192];
-    all[0..cells.len()].copy_from_slice(cells);
-    all
+    left.is_empty().then_some(places)
 }
 
 impl TableBook {
@@ -44,10 +37,8 @@ impl TableBook {
         ensures { book_rules result ≡ [] }
     {
         TableBook {
-            cells: [0; 8192],
-            long: 0,
-            places: [0; 64],
-            count: 0,
+            cells: Listed::none(),
+            places: Listed::none(),
         }
     }
 
@@ -59,10 +50,8 @@ impl TableBook {
         let slots = slots_of_cells(catalogue.slots)?;
         let places = find_places(cells, catalogue.rules, catalogue.count, &slots)?;
         Some(TableBook {
-            cells: padded(cells),
-            long: cells.len(),
+            cells: Listed::of(cells),
             places,
-            count: catalogue.count as u8,
         })
     }
 
@@ -72,9 +61,6 @@ impl TableBook {
         ensures narrowing { ExactMeans }
         ensures meaning { KitsAreSolutions }
     {
-        match TableBook::of_lawful(cells) {
-            Some(book) => book,
-            None => TableBook::none(),
-        }
+        TableBook::of_lawful(cells).unwrap_or_else(TableBook::none)
     }
 }

@@ -1,28 +1,27 @@
-ghost use Rattle.std.specs.Prelude.{◌≡◌, ◌<◌, length, take, slice_index_or};
+ghost use Rattle.std.specs.Prelude.{◌≡◌, ◌<◌, length, slice_index_or};
 ghost use Rattle.catalogue.specs.Listed.{rule_in};
 ghost use Rattle.rule_books.specs.Books.{book_rules};
-ghost use Rattle.rule_books.specs.Index.{no_rule};
-ghost use Rattle.rule_books.specs.Tables.{table_allows, table_narrowed};
 ghost use Rattle.rule_books.specs.BookLaws.{table_laws};
+ghost use Rattle.rule_books.specs.Index.{no_rule};
+ghost use Rattle.rule_books.specs.Listed.{listed};
 ghost use Rattle.rule_books.specs.TableLaws.{rules_lawful};
+ghost use Rattle.rule_books.specs.Tables.{table_allows, table_narrowed};
 
 use super::TableBook;
-use crate::narrowing::narrow_rule;
-use catalogue::cells::{RuleCells, begin_rule};
-use kits::book::{Book, Fit};
+use crate::narrowing::{TableRule, narrow_rule};
+use catalogue::cells::begin_rule;
+use kits::book::Book;
 use kits::label_box::LabelBox;
 
 impl TableBook {
     // The rule of a number, read at its place.
-    fn rule(&self, number: u8) -> RuleCells<'_>
-        requires { number < self.now.count }
-        ensures { rule_in result ≡ slice_index_or (book_rules self.now) number no_rule }
+    fn rule(&self, number: u8) -> TableRule<'_>
+        requires { number < length (listed self.now.places) }
+        ensures { rule_in result.cells ≡ slice_index_or (book_rules self.now) number no_rule }
     {
-        let place = usize::from(self.places[usize::from(number)]);
-        match begin_rule(&self.cells[place..self.long]) {
-            Some((rule, _)) => rule,
-            None => unreachable(),
-        }
+        let place = usize::from(self.places.as_slice()[usize::from(number)]);
+        let (cells, _) = begin_rule(&self.cells.as_slice()[place..]).unwrap();
+        TableRule { cells }
     }
 }
 
@@ -33,17 +32,17 @@ impl Book for TableBook {
 
     ghost narrowed = { λ b. table_narrowed (book_rules b) };
 
-    ghost points = { λ b. table_laws _ (rules_lawful (take b.long b.cells)).few };
+    ghost points = { λ b. table_laws _ (rules_lawful (listed b.cells)).few };
 
     fn count(&self) -> u8 {
-        self.count
+        self.places.len() as u8
     }
 
-    fn narrow(&self, rule: u8, b: &mut LabelBox) -> Fit {
-        if rule < self.count {
+    fn narrow(&self, rule: u8, b: &LabelBox) -> Option<LabelBox> {
+        if rule < self.count() {
             narrow_rule(self.rule(rule), b)
         } else {
-            Fit::Fits
+            Some(*b)
         }
     }
 }

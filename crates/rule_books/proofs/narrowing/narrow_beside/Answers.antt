@@ -1,30 +1,38 @@
-use Rattle.std.proofs.Common.{◌≡◌, ℕ, List, set, Option, sym, ap, ◌∙◌, subst}
+use Rattle.std.proofs.Common.{◌≡◌, get_or, sym, ap, ◌∙◌, arith}
 use lib.Bits.{bit_and}
 use Rattle.catalogue.specs.Listed.{rule_in}
-use Rattle.kits.specs.Fits.{fit_of, box_or}
 use Rattle.rule_books.proofs.BesideLaws.{beside_all, beside_none, beside_spared, beside_met}
+use Rattle.rule_books.proofs.NarrowLaws.{any_some, any_none}
 use Rattle.rule_books.proofs.narrowing.narrow_beside.Goals as goal
+use Rattle.rule_books.proofs.narrowing.narrow_beside.Goals.{then-bits-via-then-bits, then-bits-via-else-bits+then-can_spare}
 
-pub returns-then-met-label : goal.returns-then-met-label
-returns-then-met-label c =
+pub returns-in_default : goal.returns-in_default
+returns-in_default c =
+    let rule = c.args.rule in
     let b = c.args.b.now in
-    let e = beside_all (rule_in c.args.rule) c.args.t c.args.mask b.labels b.boxed c.requires.0.within c.requires.0.distinct c.requires.1.0 c.requires.1.1 (subst (λ (l : ℕ). bit_and l c.args.mask ≡ l) c.label_at-label.ensures c.if-met-label.true) in
-    record { fit = sym (ap fit_of e); after = sym (ap (λ (o : Option (List ℕ)). box_or o b.labels) e) }
+    let l : c.label-label.result.bits ≡ get_or b.labels c.args.t 0 = c.label-label.ensures ∙ ap (λ n. get_or b.labels n 0) c.slot_number-slot.ensures in
+    let e : c.bits.result ≡ get_or b.labels c.args.t 0 = c.bits.ensures ∙ l in
+    c.narrow_slots.ensures
+    ∙ sym (beside_none (rule_in rule.cells) c.args.t c.args.mask b.labels b.boxed rule.ready.within rule.ready.distinct c.requires.0 c.requires.1 (rw e at (any_none _ c.in_default.ensures)))
 
-pub returns-then-met-eq0 : goal.returns-then-met-eq0
-returns-then-met-eq0 c =
+pub returns-then-bits : goal.returns-then-bits
+returns-then-bits c =
+    let rule = c.args.rule in
     let b = c.args.b.now in
-    let e = beside_none (rule_in c.args.rule) c.args.t c.args.mask b.labels b.boxed c.requires.0.within c.requires.0.distinct c.requires.1.0 c.requires.1.1 (subst (λ (l : ℕ). bit_and l c.args.mask ≡ 0) c.label_at-label.ensures c.if-met-eq0.true) in
-    record { fit = c.narrow_slots.ensures.fit ∙ sym (ap fit_of e); after = c.narrow_slots.ensures.after ∙ sym (ap (λ (o : Option (List ℕ)). box_or o b.labels) e) }
+    let l : c.label-label.result.bits ≡ get_or b.labels c.args.t 0 = c.label-label.ensures ∙ ap (λ n. get_or b.labels n 0) c.slot_number-slot.ensures in
+    let e : c.bits.result ≡ get_or b.labels c.args.t 0 = c.bits.ensures ∙ l in
+    let met : c.in-Some.met.bits ≡ bit_and (get_or b.labels c.args.t 0) c.args.mask = rw e at (any_some _ c.in-Some.met.bits c.in-Some.ensures) in
+    elim c.then-bits.branch [
+      | then-bits-via-then-bits w ↦ sym (beside_all (rule_in rule.cells) c.args.t c.args.mask b.labels b.boxed rule.ready.within rule.ready.distinct c.requires.0 c.requires.1 (sym met ∙ sym c.bits-2.ensures ∙ w.if-bits.true ∙ c.bits-3.ensures ∙ l))
+      | then-bits-via-else-bits+then-can_spare w ↦ sym (beside_spared (rule_in rule.cells) c.args.t c.args.mask b.labels b.boxed rule.ready.within rule.ready.distinct c.requires.0 c.requires.1 (λ z. omega (arith, met, c.in-Some.met.some)) (sym w.can_spare.ensures ∙ w.if-can_spare.true))
+    ]
 
-pub returns-then-not-can_spare : goal.returns-then-not-can_spare
-returns-then-not-can_spare c =
+pub returns : goal.returns
+returns c =
+    let rule = c.args.rule in
     let b = c.args.b.now in
-    let e = beside_met (rule_in c.args.rule) c.args.t c.args.mask b.labels b.boxed c.requires.0.within c.requires.0.distinct c.requires.1.0 c.requires.1.1 (subst (λ (l : ℕ). bit_and l c.args.mask ≡ 0 → ⊥) c.label_at-label.ensures c.if-met-eq0.false) (sym c.can_spare.ensures ∙ c.if-not-can_spare.true) in
-    record { fit = sym (ap fit_of e); after = c.put_label.ensures ∙ ap (λ (l : ℕ). set b.labels c.args.t (bit_and l c.args.mask)) c.label_at-label.ensures ∙ sym (ap (λ (o : Option (List ℕ)). box_or o b.labels) e) }
-
-pub returns-else-not-can_spare : goal.returns-else-not-can_spare
-returns-else-not-can_spare c =
-    let b = c.args.b.now in
-    let e = beside_spared (rule_in c.args.rule) c.args.t c.args.mask b.labels b.boxed c.requires.0.within c.requires.0.distinct c.requires.1.0 c.requires.1.1 (subst (λ (l : ℕ). bit_and l c.args.mask ≡ 0 → ⊥) c.label_at-label.ensures c.if-met-eq0.false) (sym c.can_spare.ensures ∙ c.if-not-can_spare.false) in
-    record { fit = sym (ap fit_of e); after = sym (ap (λ (o : Option (List ℕ)). box_or o b.labels) e) }
+    let l : c.label-label.result.bits ≡ get_or b.labels c.args.t 0 = c.label-label.ensures ∙ ap (λ n. get_or b.labels n 0) c.slot_number-slot.ensures in
+    let e : c.bits.result ≡ get_or b.labels c.args.t 0 = c.bits.ensures ∙ l in
+    let met : c.in-Some.met.bits ≡ bit_and (get_or b.labels c.args.t 0) c.args.mask = rw e at (any_some _ c.in-Some.met.bits c.in-Some.ensures) in
+    rw (c.put.ensures, c.slot_number-slot.ensures, met)
+    (sym (beside_met (rule_in rule.cells) c.args.t c.args.mask b.labels b.boxed rule.ready.within rule.ready.distinct c.requires.0 c.requires.1 (λ z. omega (arith, met, c.in-Some.met.some)) (sym c.can_spare.ensures ∙ c.if-can_spare.false)))

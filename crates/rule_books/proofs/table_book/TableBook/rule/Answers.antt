@@ -1,29 +1,32 @@
-use Rattle.std.proofs.Common.{◌≡◌, ℕ, ◌≤◌, List, get_or, ap, ◌∙◌, arith, rules}
-use Rattle.rule_books.proofs.OwnLaws.{own_few, own_within, own_read}
+use Rattle.std.proofs.Common.{◌≡◌, true, get_or, sym, subst}
+use Rattle.catalogue.specs.Catalogues.{Rule}
+use Rattle.catalogue.specs.Lawful.{rule_lawful}
+use Rattle.catalogue.specs.Listed.{rule_in}
+use Rattle.rule_books.specs.Books.{book_rules}
+use Rattle.rule_books.specs.Index.{no_rule}
+use Rattle.rule_books.proofs.OwnLaws.{mapped_some, own_rules, own_lawful, own_read}
+use Rattle.rule_books.proofs.Ready.{rule_ready}
 use Rattle.rule_books.proofs.table_book.TableBook.rule.Goals as goal
 
-pub bounds-self-from : goal.bounds-self-from
-bounds-self-from c = omega (arith, c.from.ensures, own_few c.args.self.now c.args.number c.requires)
+pub unwrap-requires : goal.unwrap-requires
+unwrap-requires c =
+    let place = rw (c.as_slice.ensures, c.from.ensures) at c.from-place.ensures in
+    let r = own_read c.args.self.now c.args.number c.requires _ _ _ place c.as_slice-2.ensures c.begin_rule.ensures in
+    mapped_some _ _ c.begin_rule.result _ r
 
-pub slice_bounds-begin_rule-count : goal.slice_bounds-begin_rule-count
-slice_bounds-begin_rule-count c = rw (c.from-place.ensures, c.from.ensures) (own_within c.args.self.now c.args.number c.requires)
-
-pub slice_bounds-begin_rule-start : goal.slice_bounds-begin_rule-start
-slice_bounds-begin_rule-start c =
-    let h : c.from-place.result ≤ c.args.self.now.long = rw (c.from-place.ensures, c.from.ensures) (own_within c.args.self.now c.args.number c.requires) in
-    search rules
-
--- the place that was looked up
-at_place : (places : List ℕ) (n r x : ℕ) → x ≡ get_or places r 0 → r ≡ n → x ≡ get_or places n 0
-at_place places n r x e h = e ∙ ap (λ (k : ℕ). get_or places k 0) h
-
-pub unreachable-requires : goal.unreachable-requires
-unreachable-requires c =
-    let r = own_read c.args.self.now c.args.number c.requires _ _ (at_place c.args.self.now.places _ _ _ c.from-place.ensures c.from.ensures) c.in-None.ensures in
-    let z : ◌≡◌ {A = ℕ} 0 1 = cc in
-    omega arith
+pub invariant_of-result : goal.invariant_of-result
+invariant_of-result c =
+    let book = c.args.self.now in
+    let rule = c.unwrap.result.0 in
+    let own = own_rules book c.args.number c.requires in
+    let place = rw (c.as_slice.ensures, c.from.ensures) at c.from-place.ensures in
+    let e = own_read book c.args.number c.requires _ _ _ place c.as_slice-2.ensures (rw c.unwrap.ensures at c.begin_rule.ensures) in
+    let is : rule_in rule ≡ get_or (book_rules book) c.args.number no_rule = cc in
+    let r = rule_ready own.slots rule.kind rule.slots.now rule.rows.now rule.count own.used own.parts (subst (λ (x : Rule). rule_lawful own.slots x ≡ true) (sym is) (own_lawful book c.args.number c.requires)) in
+    record { ready = r.0; beside = r.1 }
 
 pub returns : goal.returns
 returns c =
-    let r = own_read c.args.self.now c.args.number c.requires _ _ (at_place c.args.self.now.places _ _ _ c.from-place.ensures c.from.ensures) c.in-Some.ensures in
+    let place = rw (c.as_slice.ensures, c.from.ensures) at c.from-place.ensures in
+    let r = own_read c.args.self.now c.args.number c.requires _ _ _ place c.as_slice-2.ensures (rw c.unwrap.ensures at c.begin_rule.ensures) in
     cc

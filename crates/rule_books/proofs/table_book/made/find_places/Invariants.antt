@@ -1,8 +1,14 @@
 use Rattle.std.proofs.Common.{◌≡◌, ◌≤◌, length}
-use Rattle.catalogue.specs.Listed.{listed}
+use Rattle.catalogue.specs.Listed.{listed as slots_listed}
 use Rattle.rule_books.specs.Index.{Last}
+use Rattle.rule_books.specs.Listed.{listed}
 use Rattle.rule_books.proofs.PlaceLaws.{Placing}
 use Rattle.rule_books.proofs.table_book.made.find_places.Given as goal
 
-abbrev pub invariant-loop-i : goal.invariant-loop-i
-invariant-loop-i l = (length l.places ≡ 64) × Last l.left l.cells × (length l.left ≤ length l.cells) × Placing l.cells (listed l.slots) l.count l.rules l.places l.i l.left
+abbrev pub invariant-loop : goal.invariant-loop
+invariant-loop l = record {
+  long : length (listed l.places) ≡ l.counter;
+  last : Last l.left l.cells;
+  few : length l.left ≤ length l.cells;
+  placing : Placing l.cells (slots_listed l.slots) l.count l.rules (listed l.places) l.counter l.left;
+}
