@@ -1,7 +1,7 @@
 -- Each call turns a sheet with a history into one with that history and this call at its end.
 use Rattle.std.proofs.Common.{◌≡◌, ℕ, ◌+◌, ◌^◌, Bool, true, false, not, ◌&&◌, ◌||◌, eqb, ltb, List, length, set, is_some, Some, None, Option, sym, refl, ap, ◌∙◌, subst, ap₂, ⊎_elim, arith}
 use lib.Bits.{bit_or}
-use Rattle.std.proofs.lemmas.Bool.{true≢false, cases_Bool, eqb-true, not-true}
+use Rattle.std.proofs.lemmas.Bool.{true≢false, cases_Bool, eqb-true}
 use Rattle.std.proofs.lemmas.Bool.Decides.{nat_tests}
 use Rattle.forms.specs.Forms.{standard_at}
 use Rattle.forms.specs.Opening.{opening_box}
@@ -12,8 +12,7 @@ use Rattle.sheets.specs.Sets.{members}
 use Rattle.sheets.specs.Steps.{Standing, SearchState}
 use Rattle.sheets.specs.Runs.{started, run, made}
 use Rattle.sheets.specs.declared.refusal.Refusal.{Refusal}
-use Rattle.sheets.specs.declared.refusal.Refusal.TheVariants.{NoRule, RuleGone, RuleInForce}
-use Rattle.sheets.specs.Refusals.{number_of, ask, part_offered, sets_lawful, budget_lawful, enter_refusal, withdraw_refusal, rejoin_refusal, fix_refusal, bar_refusal, free_refusal, begin_refusal, close_refusal}
+use Rattle.sheets.specs.Refusals.{number_of, part_offered, sets_lawful, budget_lawful, unless_searching, enter_refusal, withdraw_refusal, rejoin_refusal, fix_refusal, bar_refusal, free_refusal, begin_refusal, close_refusal}
 use Rattle.sheets.specs.Histories.{Call, Answer, History, brought_in, in_force, taken_out, rules_in_force, choices_of, granted, searching}
 use Rattle.sheets.specs.Histories.Call.{Enter, Withdraw, Rejoin, Fix, Bar, Free, Begin, Work, Close, Waiting, Copy}
 use Rattle.sheets.specs.Histories.Answer.{Done, Refused, Worked, Copied}
@@ -22,7 +21,7 @@ use Rattle.sheets.specs.Law.{Setting, Right, answered, search_after}
 use Rattle.sheets.specs.Outcomes.{Contents, at_opening, unless_refused, joined, with_choice, with_search, entered, withdrawn, rejoined, fixed, barred, freed, begun, worked_on, worked, closed_by, closed, waiting_in}
 use Rattle.sheets.specs.SheetHistories.{open_search, Matches, answer_of, work_answer, close_answer, waiting_answer}
 use Rattle.sheets.proofs.HistoryLaws.{set_choice}
-use Rattle.sheets.proofs.RefusalLaws.{ask_none, unless_none}
+use Rattle.sheets.proofs.RefusalLaws.{unless_none, enter_stays}
 use Rattle.sheets.proofs.RuleSetLaws.{has_or, has_without, has_only, has_none, members_in_force}
 use Rattle.sheets.proofs.RunLaws.{run_run}
 
@@ -60,31 +59,24 @@ module _ (t : Setting) where
     searching_same : is_some s.search ≡ searching h
     searching_same = ap is_some k.search ∙ open_some h (granted h)
 
-    idle : searching h ≡ false → (granted h ≡ None) × (s.search ≡ None)
-    idle e = let n = no_budget (granted h) e in (n, k.search ∙ ap (open_search t h) n)
+    idle : (rest : Option Refusal) → None ≡ unless_searching (searching h) rest → (granted h ≡ None) × (s.search ≡ None)
+    idle rest w = let n = no_budget (granted h) (unless_none (searching h) rest w) in (n, k.search ∙ ap (open_search t h) n)
 
     -- a call that is refused or done: what a done one leaves is to be shown
     unless_refused_has : {A : Type 0} (c : Call) (asked due : Option Refusal) (a : A) (new : Contents) → asked ≡ due → ((x : Answer) → x ≡ answered due Done → Right t h c x)
-        → (None ≡ due → Matches t (Then h c Done) new) → Matches t (Then h c (answer_of (unless_refused asked a new s).0)) (unless_refused asked a new s).1
-    unless_refused_has c None due a new e right done = done e
+        → (None ≡ due → Right t h c Done → Matches t (Then h c Done) new) → Matches t (Then h c (answer_of (unless_refused asked a new s).0)) (unless_refused asked a new s).1
+    unless_refused_has c None due a new e right done = done e (right Done (ap (λ (x : Option Refusal). answered x Done) e))
     unless_refused_has c (Some r) due a new e right done = refused_has c (number_of r) (right (Refused (number_of r)) (ap (λ (x : Option Refusal). answered x Done) e))
-
-    done_due : (due : Option Refusal) → None ≡ due → Done ≡ answered due Done
-    done_due due w = ap (λ (x : Option Refusal). answered x Done) w
 
     pub enter_has : (r : ℕ) → Matches t (Then h (Enter r) (answer_of (entered t.rules r s).0)) (entered t.rules r s).1
     unfolding choices_of
     enter_has r =
-        let due : Option Refusal = enter_refusal (searching h) (ltb r t.rules) (taken_out h r) (in_force h r) in
-        unless_refused_has (Enter r) _ due tt _ (rw (searching_same, k.gone r, k.force r) refl) (λ x e. e) (λ w.
-        let a = unless_none (searching h) _ w in
-        let b = ask_none (ltb r t.rules) NoRule (ask (not (taken_out h r)) RuleGone (ask (not (in_force h r)) RuleInForce None)) a.1 in
-        let out : taken_out h r ≡ false = not-true _ (ask_none (not (taken_out h r)) RuleGone (ask (not (in_force h r)) RuleInForce None) b.1).0 in
-        let i = idle a.0 in
-        let not-out : (q : ℕ) → eqb r q ≡ true → taken_out h q ≡ false = λ q z. subst (λ (x : ℕ). taken_out h x ≡ false) (eqb-true r q z) out in
+        unless_refused_has (Enter r) _ (enter_refusal (searching h) (ltb r t.rules) (taken_out h r) (in_force h r)) tt _ (rw (searching_same, k.gone r, k.force r) refl) (λ x e. e) (λ w right.
+        let out : taken_out h r ≡ false = enter_stays (searching h) (ltb r t.rules) (taken_out h r) (in_force h r) w in
+        let i = idle _ w in
         record {
-          lawful = (k.lawful, done_due due w);
-          force = λ q. has_or s.force (2 ^ r) q ∙ ap₂ (λ (x y : Bool). x || y) (k.force q) (has_only r q) ∙ enter_bool (brought_in h q) (taken_out h q) (eqb r q) (not-out q);
+          lawful = (k.lawful, right);
+          force = λ q. has_or s.force (2 ^ r) q ∙ ap₂ (λ (x y : Bool). x || y) (k.force q) (has_only r q) ∙ enter_bool (brought_in h q) (taken_out h q) (eqb r q) (λ z. subst (λ (x : ℕ). taken_out h x ≡ false) (eqb-true r q z) out);
           gone = k.gone;
           choices = k.choices;
           search = rw i.0 i.1;
@@ -93,11 +85,10 @@ module _ (t : Setting) where
     pub withdraw_has : (r : ℕ) → Matches t (Then h (Withdraw r) (answer_of (withdrawn t.rules r s).0)) (withdrawn t.rules r s).1
     unfolding choices_of
     withdraw_has r =
-        let due : Option Refusal = withdraw_refusal (searching h) (ltb r t.rules) (in_force h r) in
-        unless_refused_has (Withdraw r) _ due tt _ (rw (searching_same, k.force r) refl) (λ x e. e) (λ w.
-        let i = idle (unless_none (searching h) _ w).0 in
+        unless_refused_has (Withdraw r) _ (withdraw_refusal (searching h) (ltb r t.rules) (in_force h r)) tt _ (rw (searching_same, k.force r) refl) (λ x e. e) (λ w right.
+        let i = idle _ w in
         record {
-          lawful = (k.lawful, done_due due w);
+          lawful = (k.lawful, right);
           force = λ q. has_without s.force (2 ^ r) q ∙ ap₂ (λ (x y : Bool). x && not y) (k.force q) (has_only r q) ∙ withdraw_bool (brought_in h q) (taken_out h q) (eqb r q);
           gone = λ q. has_or s.gone (2 ^ r) q ∙ ap₂ (λ (x y : Bool). x || y) (k.gone q) (has_only r q) ∙ or_comm (taken_out h q) (eqb r q);
           choices = k.choices;
@@ -107,13 +98,12 @@ module _ (t : Setting) where
     pub rejoin_has : (m f g : ℕ) → Matches t (Then h (Rejoin m f g) (answer_of (rejoined t.rules t.mark m f g s).0)) (rejoined t.rules t.mark m f g s).1
     unfolding choices_of
     rejoin_has m f g =
-        let due : Option Refusal = rejoin_refusal (searching h) (eqb m t.mark) (sets_lawful t.rules f g) in
-        unless_refused_has (Rejoin m f g) _ due tt (joined s f g) (rw searching_same refl) (λ x e. e) (λ w.
-        let i = idle (unless_none (searching h) _ w).0 in
+        unless_refused_has (Rejoin m f g) _ (rejoin_refusal (searching h) (eqb m t.mark) (sets_lawful t.rules f g)) tt (joined s f g) (rw searching_same refl) (λ x e. e) (λ w right.
+        let i = idle _ w in
         let out : (q : ℕ) → has_member (bit_or s.gone g) q ≡ (taken_out h q || has_member g q) = λ q. has_or s.gone g q ∙ ap (λ (x : Bool). x || has_member g q) (k.gone q) in
         let all : (q : ℕ) → has_member (bit_or s.force f) q ≡ (in_force h q || has_member f q) = λ q. has_or s.force f q ∙ ap (λ (x : Bool). x || has_member f q) (k.force q) in
         record {
-          lawful = (k.lawful, done_due due w);
+          lawful = (k.lawful, right);
           force = λ q. has_without (bit_or s.force f) (bit_or s.gone g) q ∙ ap₂ (λ (x y : Bool). x && not y) (all q) (out q) ∙ rejoin_bool (brought_in h q) (taken_out h q) (has_member f q) (has_member g q);
           gone = λ q. out q ∙ or_comm (taken_out h q) (has_member g q);
           choices = k.choices;
@@ -126,33 +116,29 @@ module _ (t : Setting) where
     pub fix_has : (j v : ℕ) → Matches t (Then h (Fix j v) (answer_of (fixed t.slots j v s).0)) (fixed t.slots j v s).1
     unfolding choices_of
     fix_has j v =
-        let due : Option Refusal = fix_refusal (searching h) (ltb j (length t.slots)) (part_offered t.slots j v) in
-        unless_refused_has (Fix j v) _ due tt (with_choice s j (chosen.Fixed v)) (rw searching_same refl) (λ x e. e) (λ w.
-        let i = idle (unless_none (searching h) _ w).0 in
-        record { lawful = (k.lawful, done_due due w); force = k.force; gone = k.gone; choices = put_on j (chosen.Fixed v) ∙ set_choice h j (chosen.Fixed v); search = rw i.0 i.1 })
+        unless_refused_has (Fix j v) _ (fix_refusal (searching h) (ltb j (length t.slots)) (part_offered t.slots j v)) tt (with_choice s j (chosen.Fixed v)) (rw searching_same refl) (λ x e. e) (λ w right.
+        let i = idle _ w in
+        record { lawful = (k.lawful, right); force = k.force; gone = k.gone; choices = put_on j (chosen.Fixed v) ∙ set_choice h j (chosen.Fixed v); search = rw i.0 i.1 })
 
     pub bar_has : (j : ℕ) → Matches t (Then h (Bar j) (answer_of (barred t.slots j s).0)) (barred t.slots j s).1
     unfolding choices_of
     bar_has j =
-        let due : Option Refusal = bar_refusal (searching h) (ltb j (length t.slots)) (standard_at t.slots j) in
-        unless_refused_has (Bar j) _ due tt (with_choice s j chosen.Barred) (rw searching_same refl) (λ x e. e) (λ w.
-        let i = idle (unless_none (searching h) _ w).0 in
-        record { lawful = (k.lawful, done_due due w); force = k.force; gone = k.gone; choices = put_on j chosen.Barred ∙ set_choice h j chosen.Barred; search = rw i.0 i.1 })
+        unless_refused_has (Bar j) _ (bar_refusal (searching h) (ltb j (length t.slots)) (standard_at t.slots j)) tt (with_choice s j chosen.Barred) (rw searching_same refl) (λ x e. e) (λ w right.
+        let i = idle _ w in
+        record { lawful = (k.lawful, right); force = k.force; gone = k.gone; choices = put_on j chosen.Barred ∙ set_choice h j chosen.Barred; search = rw i.0 i.1 })
 
     pub free_has : (j : ℕ) → Matches t (Then h (Free j) (answer_of (freed t.slots j s).0)) (freed t.slots j s).1
     unfolding choices_of
     free_has j =
-        let due : Option Refusal = free_refusal (searching h) (ltb j (length t.slots)) in
-        unless_refused_has (Free j) _ due tt (with_choice s j chosen.Free) (rw searching_same refl) (λ x e. e) (λ w.
-        let i = idle (unless_none (searching h) _ w).0 in
-        record { lawful = (k.lawful, done_due due w); force = k.force; gone = k.gone; choices = put_on j chosen.Free ∙ set_choice h j chosen.Free; search = rw i.0 i.1 })
+        unless_refused_has (Free j) _ (free_refusal (searching h) (ltb j (length t.slots))) tt (with_choice s j chosen.Free) (rw searching_same refl) (λ x e. e) (λ w right.
+        let i = idle _ w in
+        record { lawful = (k.lawful, right); force = k.force; gone = k.gone; choices = put_on j chosen.Free ∙ set_choice h j chosen.Free; search = rw i.0 i.1 })
 
     pub begin_has : {A : Type 0} (slip : A) → Matches t (Then h Begin (answer_of (begun t.slots slip s).0)) (begun t.slots slip s).1
     unfolding choices_of rules_in_force
     begin_has slip =
-        let due : Option Refusal = begin_refusal (searching h) in
-        unless_refused_has Begin _ due slip _ (rw searching_same refl) (λ x e. e) (λ w.
-        record { lawful = (k.lawful, done_due due w); force = k.force; gone = k.gone; choices = k.choices; search = ap (λ (cs : List Choice). Some (started (opening_box t.slots cs))) k.choices })
+        unless_refused_has Begin _ (begin_refusal (searching h)) slip _ (rw searching_same refl) (λ x e. e) (λ w right.
+        record { lawful = (k.lawful, right); force = k.force; gone = k.gone; choices = k.choices; search = ap (λ (cs : List Choice). Some (started (opening_box t.slots cs))) k.choices })
 
     pub close_has : {A : Type 0} (slip : A) → Matches t (Then h Close (close_answer (closed slip s).0)) (closed slip s).1
     unfolding choices_of
@@ -160,7 +146,7 @@ module _ (t : Setting) where
       where
         go : (asked : Option Refusal) → asked ≡ close_refusal (searching h) → Matches t (Then h Close (close_answer (closed_by {A = A} asked slip s).0)) (closed_by {A = A} asked slip s).1
         go (Some e) w = refused_has Close (number_of e) (ap (λ (x : Option Refusal). answered x Done) w)
-        go None w = record { lawful = (k.lawful, done_due _ w); force = k.force; gone = k.gone; choices = k.choices; search = refl }
+        go None w = record { lawful = (k.lawful, ap (λ (x : Option Refusal). answered x Done) w); force = k.force; gone = k.gone; choices = k.choices; search = refl }
 
     pub copy_has : Matches t (Then h Copy (Copied t.mark s.force s.gone)) s
     unfolding choices_of rules_in_force

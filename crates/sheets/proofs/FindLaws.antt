@@ -1,5 +1,5 @@
 -- Begin, one work and close, one after the other.
-use Rattle.std.proofs.Common.{◌≡◌, ℕ, List, is_some, Some, None, Ok, Option, Result, sym, refl, ap, ◌∙◌, ap₂, arith}
+use Rattle.std.proofs.Common.{◌≡◌, ℕ, List, is_some, Some, None, Ok, Option, Result, sym, refl, ap, ◌∙◌, ap₂}
 use Rattle.catalogue.specs.declared.model.Slot.{Slot}
 use Rattle.forms.specs.declared.form.Form.{Form}
 use Rattle.forms.specs.Opening.{opening_box}
@@ -21,14 +21,14 @@ begun_ok {A} slots a slip s y e = go s.search refl e
   where
     go : (o : Option SearchState) → s.search ≡ o → ◌≡◌ {A = Result A Refusal × Contents} (Ok slip, y) (unless_refused (begin_refusal (is_some o)) a (begun_search slots s) s) → (s.search ≡ None) × (y ≡ begun_search slots s)
     go None q f = (q, ap (λ (p : Result A Refusal × Contents). p.1) f)
-    go (Some x) q f = let r = ap (λ (p : Result A Refusal × Contents). p.0) f in let z : ◌≡◌ {A = ℕ} 0 1 = cc in absurd (omega arith)
+    go (Some x) q f = let r = ap (λ (p : Result A Refusal × Contents). p.0) f in cc
 
 closed_ok : {A : Type 0} (slip : A) (u : Unit {0}) (s y : Contents) → ◌≡◌ {A = Result (Unit {0}) (Refusal × A) × Contents} (Ok u, y) (closed slip s) → y ≡ with_search s None
 closed_ok {A} slip u s y e = go (close_refusal (is_some s.search)) e
   where
     go : (o : Option Refusal) → ◌≡◌ {A = Result (Unit {0}) (Refusal × A) × Contents} (Ok u, y) (closed_by o slip s) → y ≡ with_search s None
     go None f = ap (λ (p : Result (Unit {0}) (Refusal × A) × Contents). p.1) f
-    go (Some x) f = let r = ap (λ (p : Result (Unit {0}) (Refusal × A) × Contents). p.0) f in let z : ◌≡◌ {A = ℕ} 0 1 = cc in absurd (omega arith)
+    go (Some x) f = let r = ap (λ (p : Result (Unit {0}) (Refusal × A) × Contents). p.0) f in cc
 
 abbrev WorkResult : Type 0
 WorkResult = Result (Standing × ℕ) Refusal

@@ -1,6 +1,7 @@
 -- No harm is in a lawful history.
 use Rattle.std.proofs.Common.{◌≡◌, ℕ, ◌+◌, Bool, true, false, List, Option, sym, refl, ap, ◌∙◌, subst, ⊎_elim, arith}
-use Rattle.std.proofs.lemmas.Bool.{true≢false, and_parts, and_from, not-true, not_from_false}
+use Rattle.std.proofs.lemmas.Bool.Decides.{nat_tests}
+use Rattle.std.proofs.lemmas.Bool.{true≢false}
 use Rattle.kits.specs.Books.{Laws}
 use Rattle.forms.specs.Forms.{form_lawful}
 use Rattle.sheets.specs.Searches.{RightState}
@@ -18,12 +19,12 @@ use Rattle.sheets.proofs.SearchLaws.{search_right}
 
 work_accepted : (s b : Bool) (x y : Standing) (m n : ℕ) → Worked x m ≡ answered (work_refusal s b) (Worked y n) → (s ≡ true) × (x ≡ y) × (m ≡ n)
 work_accepted true true x y m n e = (refl, cc, cc)
-work_accepted true false x y m n e = let z : ◌≡◌ {A = ℕ} 0 1 = cc in absurd (omega arith)
-work_accepted false b x y m n e = let z : ◌≡◌ {A = ℕ} 0 1 = cc in absurd (omega arith)
+work_accepted true false x y m n e = cc
+work_accepted false b x y m n e = cc
 
 waiting_accepted : (s : Bool) (m n : ℕ) (x y : Option (List ℕ)) → Waits m x ≡ answered (close_refusal s) (Waits n y) → m ≡ n
 waiting_accepted true m n x y e = cc
-waiting_accepted false m n x y e = let z : ◌≡◌ {A = ℕ} 0 1 = cc in absurd (omega arith)
+waiting_accepted false m n x y e = cc
 
 module _ (t : Setting) where
   called_lawful : (h g : History) (c : Call) (a : Answer) → Lawful t h → Called h g c a → Lawful t (Then g c a)
@@ -44,8 +45,8 @@ module _ (t : Setting) where
       few_waiting = λ g n b m.
           let p = called_lawful h g Waiting (Waits n b) l m in
           omega (arith, waiting_accepted (searching g) n _ b _ p.1, (right_after g p.0 (total_granted g)).few);
-      shown_in_force = λ g k f x m r e. let p = and_parts _ _ (sym ((shown g k f x m).1 r) ∙ e) in (p.0, not-true _ p.1);
-      none_left_out = λ g k f x m r p q. (shown g k f x m).1 r ∙ and_from _ _ p (not_from_false _ q);
+      shown_in_force = λ g k f x m r e. grind (arith, nat_tests, (shown g k f x m).1 r);
+      none_left_out = λ g k f x m r p q. grind (arith, nat_tests, (shown g k f x m).1 r);
       shown_gone = λ g k f x m. (shown g k f x m).2;
       known_in_force = in_force_known t h l;
     }

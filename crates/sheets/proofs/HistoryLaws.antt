@@ -1,8 +1,9 @@
 -- What a lawful history says: its rules in force are the book's, and its choices make an opening box.
-use Rattle.std.proofs.Common.{◌≡◌, ℕ, zero, suc, ◌+◌, ◌^◌, ◌<◌, ◌≤◌, Bool, true, false, cond, eqb, ltb, leb, List, [], ◌∷◌, length, set, sym, refl, ap, ◌∙◌, subst, ⊎_elim, le_of_suc-le-suc, arith, pow_mono}
+use Rattle.std.proofs.Common.{◌≡◌, ℕ, zero, suc, ◌+◌, ◌^◌, ◌<◌, ◌≤◌, true, cond, eqb, ltb, List, [], ◌∷◌, length, set, sym, refl, ap, ◌∙◌, subst, arith, pow_mono}
 use lib.Bits.{bit_and}
 use Rattle.std.proofs.lemmas.Nat.{pow_pos}
-use Rattle.std.proofs.lemmas.Bool.{true≢false, cases_Bool, eq-eqb, ne_eqb, eqb-true, ltb-true, leb-true, le-leb, and_parts, and_from, or_cases}
+use Rattle.std.proofs.lemmas.Bool.Decides.{nat_tests}
+use Rattle.std.proofs.lemmas.Bool.{true≢false, eq-eqb, ne_eqb, eqb-true, ltb-true, and_parts, and_from}
 use Rattle.catalogue.specs.declared.model.Slot.{Slot}
 use Rattle.catalogue.specs.Lawful.{all, slot_lawful, offered}
 use Rattle.forms.specs.Forms.{form_lawful}
@@ -42,34 +43,29 @@ set_choice h k c = set_from 24 0 k k c (λ i. choice_on h i) (omega arith)
 
 pub offered_few : (slots : List Slot) (k : ℕ) → all slot_lawful slots ≡ true → offered slots k ≤ 15
 offered_few [] k e = omega arith
-offered_few (s ∷ slots) zero e = leb-true _ _ (and_parts (leb 1 s.parts) (leb s.parts 15) (and_parts (slot_lawful s) (all slot_lawful slots) e).0).1
-offered_few (s ∷ slots) (suc k) e = offered_few slots k (and_parts (slot_lawful s) (all slot_lawful slots) e).1
+offered_few (s ∷ slots) zero e = grind (arith, nat_tests)
+offered_few (s ∷ slots) (suc k) e = offered_few slots k (grind (arith, nat_tests))
 
 -- a part that a slot offers may be fixed
 pub offered_lawful : (slots : List Slot) (k v : ℕ) → form_lawful slots ≡ true → part_offered slots k v ≡ true → choice_lawful (chosen.Fixed v) ≡ true
-offered_lawful slots k v l e =
-    let p = and_parts (leb 1 v) (leb v (offered slots k)) e in
-    and_from _ _ p.0 (le-leb v 15 (omega (arith, leb-true v (offered slots k) p.1, offered_few slots k (form_slots slots l))))
+offered_lawful slots k v l e = grind (arith, nat_tests, offered_few slots k (form_slots slots l))
 
 -- no label of an opening box passes 16 bits
 chosen_small : (c : Choice) (s : Slot) → choice_lawful c ≡ true → slot_lawful s ≡ true → chosen_label c s < 2 ^ 16
 chosen_small chosen.Free s h l =
-    let m : 2 ^ suc s.parts ≤ 2 ^ 16 = pow_mono {i = suc s.parts} {j = 16} (omega (arith, leb-true _ _ (and_parts (leb 1 s.parts) (leb s.parts 15) l).1)) in
-    ⊎_elim
-    (λ (e : s.standard ≡ true). rw e (omega (arith, pow_pos (suc s.parts))))
-    (λ (e : s.standard ≡ false). rw e (omega (arith, pow_pos (suc s.parts))))
-    (cases_Bool s.standard)
+    let m : 2 ^ suc s.parts ≤ 2 ^ 16 = pow_mono {i = suc s.parts} {j = 16} (grind (arith, nat_tests)) in
+    grind (arith, nat_tests, pow_pos (suc s.parts))
 chosen_small (chosen.Fixed v) s h l =
-    let m : 2 ^ v ≤ 2 ^ 15 = pow_mono {i = v} {j = 15} (leb-true _ _ (and_parts (leb 1 v) (leb v 15) h).1) in
+    let m : 2 ^ v ≤ 2 ^ 15 = pow_mono {i = v} {j = 15} (grind (arith, nat_tests)) in
     omega arith
 chosen_small chosen.Barred s h l = omega arith
 
 opening_small : (slots : List Slot) (cs : List Choice) → all slot_lawful slots ≡ true → choices_lawful cs ≡ true → Small (opening_box slots cs)
 opening_small slots [] l h k b = absurd (omega arith)
 opening_small [] (c ∷ cs) l h zero b = omega arith
-opening_small [] (c ∷ cs) l h (suc k) b = opening_small [] cs l (and_parts (choice_lawful c) (choices_lawful cs) h).1 k (le_of_suc-le-suc b)
-opening_small (s ∷ slots) (c ∷ cs) l h zero b = chosen_small c s (and_parts (choice_lawful c) (choices_lawful cs) h).0 (and_parts (slot_lawful s) (all slot_lawful slots) l).0
-opening_small (s ∷ slots) (c ∷ cs) l h (suc k) b = opening_small slots cs (and_parts (slot_lawful s) (all slot_lawful slots) l).1 (and_parts (choice_lawful c) (choices_lawful cs) h).1 k (le_of_suc-le-suc b)
+opening_small [] (c ∷ cs) l h (suc k) b = opening_small [] cs l (grind (arith, nat_tests)) k (omega arith)
+opening_small (s ∷ slots) (c ∷ cs) l h zero b = chosen_small c s (grind (arith, nat_tests)) (grind (arith, nat_tests))
+opening_small (s ∷ slots) (c ∷ cs) l h (suc k) b = opening_small slots cs (grind (arith, nat_tests)) (grind (arith, nat_tests)) k (omega arith)
 
 choices_length : (n k : ℕ) (f : ℕ → Choice) → length (choices_from n k f) ≡ n
 choices_length zero k f = refl
@@ -100,32 +96,24 @@ module _ (t : Setting) where
 
   brought_known : (h : History) → Lawful t h → (r : ℕ) → brought_in h r ≡ true → r < t.rules
   brought_known Opened l r e = absurd (true≢false (sym e))
-  brought_known (Then h c a) l r e =
-      ⊎_elim
-      (λ (y : accepted a ≡ true). ⊎_elim (λ (b : brings_in c r ≡ true). brings_known h c a r l.1 y b) (λ (b : brought_in h r ≡ true). brought_known h l.0 r b) (or_cases (brings_in c r) (brought_in h r) (rw y at e)))
-      (λ (y : accepted a ≡ false). brought_known h l.0 r (rw y at e))
-      (cases_Bool (accepted a))
+  brought_known (Then h c a) l r e = grind (arith, nat_tests, brings_known h c a r l.1, brought_known h l.0 r)
 
   pub in_force_known : (h : History) → Lawful t h → (r : ℕ) → in_force h r ≡ true → r < t.rules
-  in_force_known h l r e = brought_known h l r (and_parts _ _ e).0
+  in_force_known h l r e = brought_known h l r (grind (arith, nat_tests))
 
   pub in_force_below : (h : History) → Lawful t h → Below t.rules (rules_in_force h)
   in_force_below h l = rules_below t.rules h (in_force_known h l)
 
   module _ (form : form_lawful t.slots ≡ true) where
-    cond_lawful : (b : Bool) (x y : Choice) → choice_lawful x ≡ true → choice_lawful y ≡ true → choice_lawful (cond b x y) ≡ true
-    cond_lawful true x y p q = p
-    cond_lawful false x y p q = q
-
     chooses_lawful : (h : History) (c : Call) (a : Answer) (k : ℕ) → Right t h c a → accepted a ≡ true → choice_lawful (choice_on h k) ≡ true → choice_lawful (chooses c k (choice_on h k)) ≡ true
     chooses_lawful h (Enter q) a k i y e = e
     chooses_lawful h (Withdraw q) a k i y e = e
     chooses_lawful h (Rejoin m f g) a k i y e = e
     chooses_lawful h (Fix j v) a k i y e =
         let o = fix_offered a Done y (searching h) (ltb j (length t.slots)) (part_offered t.slots j v) i in
-        cond_lawful (eqb j k) (chosen.Fixed v) (choice_on h k) (offered_lawful t.slots j v form o) e
-    chooses_lawful h (Bar j) a k i y e = cond_lawful (eqb j k) chosen.Barred (choice_on h k) refl e
-    chooses_lawful h (Free j) a k i y e = cond_lawful (eqb j k) chosen.Free (choice_on h k) refl e
+        grind (arith, nat_tests, offered_lawful t.slots j v form o)
+    chooses_lawful h (Bar j) a k i y e = grind (arith, nat_tests)
+    chooses_lawful h (Free j) a k i y e = grind (arith, nat_tests)
     chooses_lawful h Begin a k i y e = e
     chooses_lawful h (Work b) a k i y e = e
     chooses_lawful h Close a k i y e = e
@@ -135,11 +123,7 @@ module _ (t : Setting) where
     choice_on_lawful : (h : History) → Lawful t h → (k : ℕ) → choice_lawful (choice_on h k) ≡ true
     choice_on_lawful Opened l k = refl
     choice_on_lawful (Then h c a) l k =
-        let e = choice_on_lawful h l.0 k in
-        ⊎_elim
-        (λ (y : accepted a ≡ true). rw y (chooses_lawful h c a k l.1 y e))
-        (λ (y : accepted a ≡ false). rw y e)
-        (cases_Bool (accepted a))
+        grind (arith, nat_tests, chooses_lawful h c a k l.1, choice_on_lawful h l.0 k)
 
     pub opening_boxed : (h : History) → Lawful t h → Boxed (opening_of t h)
     unfolding choices_of

@@ -1,30 +1,21 @@
 -- Laws of narrowing by each rule of a list in turn.
-use Rattle.std.proofs.Common.{◌≡◌, ℕ, ◌-◌, ◌^◌, ◌<◌, ◌≤◌, Bool, true, List, [], ◌∷◌, is_some, Some, None, Option, sym, refl, ap, ◌∙◌, subst, arith, MatchOption}
-use lib.Bits.{bit_and}
-use lib.Count.{count_trailing_zeros}
+use Rattle.std.proofs.Common.{◌≡◌, ℕ, ◌≤◌, Bool, true, List, [], ◌∷◌, is_some, Some, None, Option, sym, refl, ap, ◌∙◌, subst, MatchOption}
+use Rattle.std.specs.Option.{option_and_then}
 use Rattle.kits.specs.Books.{Laws, Part}
 use Rattle.kits.specs.Boxes.{Boxed, In, single, settled, lowest_filling}
 use Rattle.kits.specs.Kits.{Allowed}
-use Rattle.kits.proofs.LabelLaws.{and_less, least_at}
 use Rattle.sheets.specs.Searches.{Below}
-use Rattle.sheets.specs.Sets.{members}
-use Rattle.sheets.specs.Steps.{and_then, narrowed_by_all}
+use Rattle.sheets.specs.Steps.{narrowed_by_all}
 use Rattle.sheets.proofs.PartLaws.{part_single, part_settled}
-use Rattle.sheets.proofs.SetLaws.{members_least}
-
--- the lowest rule of a set first, then the others, as the code finds them
-pub narrowed_least : (narrowed : ℕ → List ℕ → Option (List ℕ)) (s : ℕ) (b : List ℕ) → 0 < s → s < 2 ^ 64
-    → narrowed_by_all narrowed (members s) b ≡ and_then (narrowed (count_trailing_zeros 64 s) b) (narrowed_by_all narrowed (members (bit_and s (s - 1))))
-narrowed_least narrowed s b p h = rw (members_least s p h, and_less 64 s p h, least_at 64 s p h) refl
 
 module _ (count : ℕ) (allows : ℕ → List ℕ → Bool) (narrowed : ℕ → List ℕ → Option (List ℕ)) (laws : Laws count allows narrowed) where
   pub all_parts : (rs b c : List ℕ) → Boxed b → narrowed_by_all narrowed rs b ≡ Some c → Boxed c × Part c b
   all_parts [] b c o e = let q : b ≡ c = cc in rw (sym q) (o, λ k v h. h)
   all_parts (r ∷ rs) b c o e = go (narrowed r b) refl e (λ d. all_parts rs d c)
     where
-      go : (x : Option (List ℕ)) → narrowed r b ≡ x → and_then x (narrowed_by_all narrowed rs) ≡ Some c
+      go : (x : Option (List ℕ)) → narrowed r b ≡ x → option_and_then (narrowed_by_all narrowed rs) x ≡ Some c
           → ((d : List ℕ) → Boxed d → narrowed_by_all narrowed rs d ≡ Some c → Boxed c × Part c d) → Boxed c × Part c b
-      go None q n ih = let z : ◌≡◌ {A = ℕ} 0 1 = cc in absurd (omega arith)
+      go None q n ih = cc
       go (Some d) q n ih =
           let one = laws.parts r b d o q in
           let more = ih d one.0 n in
@@ -41,7 +32,7 @@ module _ (count : ℕ) (allows : ℕ → List ℕ → Bool) (narrowed : ℕ → 
   all_keep (r ∷ rs) u b f o i a = go (narrowed r b) refl (laws.keeps r b f u.0 o i a.0) (λ d p j. all_keep rs u.1 d f p j a.1)
     where
       go : (x : Option (List ℕ)) → narrowed r b ≡ x → MatchOption x ⊥ (λ c. In f c)
-          → ((d : List ℕ) → Boxed d → In f d → MatchOption (narrowed_by_all narrowed rs d) ⊥ (λ c. In f c)) → MatchOption (and_then x (narrowed_by_all narrowed rs)) ⊥ (λ c. In f c)
+          → ((d : List ℕ) → Boxed d → In f d → MatchOption (narrowed_by_all narrowed rs d) ⊥ (λ c. In f c)) → MatchOption (option_and_then (narrowed_by_all narrowed rs) x) ⊥ (λ c. In f c)
       go None q h ih = h
       go (Some d) q h ih = ih d (laws.parts r b d o q).0 h
 
@@ -50,9 +41,9 @@ module _ (count : ℕ) (allows : ℕ → List ℕ → Bool) (narrowed : ℕ → 
   all_judge [] u b c o s e = tt
   all_judge (r ∷ rs) u b c o s e = go (narrowed r b) refl e (all_judge rs u.1 b c o s)
     where
-      go : (x : Option (List ℕ)) → narrowed r b ≡ x → and_then x (narrowed_by_all narrowed rs) ≡ Some c
+      go : (x : Option (List ℕ)) → narrowed r b ≡ x → option_and_then (narrowed_by_all narrowed rs) x ≡ Some c
           → (narrowed_by_all narrowed rs b ≡ Some c → Allowed allows rs (lowest_filling b)) → Allowed allows (r ∷ rs) (lowest_filling b)
-      go None q n ih = let z : ◌≡◌ {A = ℕ} 0 1 = cc in absurd (omega arith)
+      go None q n ih = cc
       go (Some d) q n ih =
           let p = laws.parts r b d o q in
           let same = part_single d b (p.0.0 ∙ sym o.0) p.0.1 o.1 s p.1 in

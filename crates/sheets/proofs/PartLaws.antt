@@ -1,8 +1,8 @@
 -- Laws of a box whose labels are parts of another's.
-use Rattle.std.proofs.Common.{◌≡◌, ℕ, zero, suc, ◌/◌, ◌%◌, ◌^◌, ◌<◌, ◌≤◌, true, false, eqb, List, [], ◌∷◌, length, sym, refl, ap, ◌∙◌, ap₂, ⊎_elim, suc-le-suc, zero-le, pow-suc, arith}
+use Rattle.std.proofs.Common.{◌≡◌, ℕ, zero, suc, ◌/◌, ◌%◌, ◌^◌, ◌<◌, ◌≤◌, true, List, [], ◌∷◌, length, sym, refl, ap, ◌∙◌, ap₂, ⊎_elim, zero-le, pow-suc, arith}
 use lib.Count.{ones, ones_step}
 use Rattle.std.proofs.lemmas.Nat.{mul-le}
-use Rattle.std.proofs.lemmas.Bool.{cases_Bool, eq-eqb, eqb-true}
+use Rattle.std.proofs.lemmas.Bool.Decides.{nat_tests}
 use Rattle.kits.specs.Books.{Part}
 use Rattle.kits.specs.Boxes.{Full, In, volume, single, settled}
 use Rattle.kits.specs.Labels.{Has, least}
@@ -57,9 +57,4 @@ pub part_settled : (c b : List ℕ) → length c ≡ length b → Full c → Par
 part_settled c [] n f p = zero-le
 part_settled [] (l ∷ b) n f p = absurd (omega (arith, n))
 part_settled (k ∷ c) (l ∷ b) n f p =
-    ⊎_elim
-    (λ (e : eqb (ones l) 1 ≡ true).
-    let o = one_part k l (f 0 (omega arith)) (p 0) (eqb-true _ _ e) in
-    rw (e, eq-eqb _ _ o) (suc-le-suc (part_settled c b (omega (arith, n)) (full_tail k c f) (λ j. p (suc j)))))
-    (λ (e : eqb (ones l) 1 ≡ false). rw e zero-le)
-    (cases_Bool (eqb (ones l) 1))
+    grind (arith, nat_tests, one_part k l (f 0 (omega arith)) (p 0), part_settled c b (omega (arith, n)) (full_tail k c f) (λ j. p (suc j)))

@@ -3,6 +3,7 @@ use Rattle.std.specs.Prelude.{ℕ, zero, suc, ◌+◌, Bool, true, false, cond, 
 use Rattle.kits.specs.declared.choices.Choice.{Choice}
 use Rattle.kits.specs.declared.choices.Choice.TheVariants as chosen
 use Rattle.kits.specs.Labels.{has_member}
+use Rattle.sheets.specs.Sets.{numbers_from}
 use Rattle.sheets.specs.Steps.{Standing}
 
 pub data Call : Type 0 where
@@ -83,14 +84,9 @@ taken_out (Then h c a) r = cond (accepted a) (takes_out c r || taken_out h r) (t
 abbrev pub in_force : History → ℕ → Bool
 in_force h r = brought_in h r && not (taken_out h r)
 
--- those of the n numbers from r on of which p holds, rising
-abbrev pub numbers_from : ℕ → ℕ → (ℕ → Bool) → List ℕ
-numbers_from zero r p = []
-numbers_from (suc n) r p = cond (p r) (r ∷ numbers_from n (suc r) p) (numbers_from n (suc r) p)
-
 -- the rules in force, rising: a book has no rule above 63
 unfoldable pub rules_in_force : History → List ℕ
-rules_in_force h = numbers_from 64 0 (λ r. in_force h r)
+rules_in_force h = numbers_from 64 0 (in_force h)
 
 -- the choice on slot k after an accepted call
 abbrev pub chooses : Call → ℕ → Choice → Choice

@@ -1,12 +1,12 @@
 -- Sets of rule numbers in 64 bits, bit r standing for rule r.
-use Rattle.std.specs.Prelude.{ℕ, zero, suc, cond, List, [], ◌∷◌}
+use Rattle.std.specs.Prelude.{ℕ, zero, suc, Bool, cond, List, [], ◌∷◌}
 use Rattle.kits.specs.Labels.{has_member}
 
--- the members of the set s among the n numbers from r on, rising
-abbrev pub members_from : ℕ → ℕ → ℕ → List ℕ
-members_from zero r s = []
-members_from (suc n) r s = cond (has_member s r) (r ∷ members_from n (suc r) s) (members_from n (suc r) s)
+-- those of the n numbers from r on of which p holds, rising
+abbrev pub numbers_from : ℕ → ℕ → (ℕ → Bool) → List ℕ
+numbers_from zero r p = []
+numbers_from (suc n) r p = cond (p r) (r ∷ numbers_from n (suc r) p) (numbers_from n (suc r) p)
 
 -- the members of the set s, rising
 unfoldable pub members : ℕ → List ℕ
-members s = members_from 64 0 s
+members s = numbers_from 64 0 (has_member s)

@@ -1,9 +1,10 @@
 -- Sheets: what they hold, their histories, and the law that they keep.
-use Rattle.std.specs.Prelude.{ℕ, ◌≤◌, Bool, List, Ok, Err, Option, Result}
+use Rattle.std.specs.Prelude.{ℕ, List, Option, Result}
 use Rattle.std.specs.Option.{option_map}
 use Rattle.fields.specs.Results.{mapped_ok}
 use Rattle.forms.specs.declared.form.Form.{Form}
 use Rattle.forms.specs.Said.{used_slots}
+use Rattle.kits.specs.declared.book.Book.{Ghosts}
 use Rattle.kits.specs.declared.label_box.LabelBox.{LabelBox}
 use Rattle.sheets.specs.declared.refusal.Refusal.{Refusal}
 use Rattle.sheets.specs.declared.search.End.{End}
@@ -26,7 +27,7 @@ abbrev pub the_slip : Slip
 the_slip = record { seal = tt }
 
 abbrev pub contents_of : SheetState → Contents
-contents_of s = record { force = s.force; gone = s.gone; choices = s.choices.list; search = option_map state_of s.search }
+contents_of s = record { force = s.force.bits; gone = s.gone.bits; choices = s.choices.list; search = option_map state_of s.search }
 
 -- everything that a sheet has
 abbrev pub whole : {B : Type 0} → Sheet B → Form × B × ℕ × Contents
@@ -44,21 +45,16 @@ work_result r = mapped_ok (λ x. (standing_of x.0, x.1)) r
 abbrev pub waiting_result : Result (ℕ × Option LabelBox) Refusal → Result (ℕ × Option (List ℕ)) Refusal
 waiting_result r = mapped_ok (λ x. (x.0, option_map (λ b. b.labels) x.1)) r
 
--- never do more than 25 boxes wait
-abbrev pub Few : Result (ℕ × Option LabelBox) Refusal → Type 0
-Few (Ok x) = x.0 ≤ 25
-Few (Err e) = Unit {0}
-
 abbrev pub copy_of : {B : Type 0} → Sheet B → SheetCopy
-copy_of s = record { mark = s.mark; force = s.state.force; gone = s.state.gone }
+copy_of s = record { mark = s.mark; force = s.state.force.bits; gone = s.state.gone.bits }
 
 abbrev pub copy_answer : SheetCopy → Answer
 copy_answer c = Copied c.mark c.force c.gone
 
 -- sheets over the books of a type, by what such a book means
-module _ {B : Type 0} (rules : B → ℕ) (allows : B → ℕ → List ℕ → Bool) (narrowed : B → ℕ → List ℕ → Option (List ℕ)) where
+module _ {B : Type 0} (book : Ghosts B) where
   abbrev pub setting : Sheet B → Setting
-  setting s = record { slots = used_slots s.form; rules = rules s.book; allows = allows s.book; narrowed = narrowed s.book; mark = s.mark }
+  setting s = record { slots = used_slots s.form; rules = book.rules s.book; allows = book.allows s.book; narrowed = book.narrowed s.book; mark = s.mark }
 
   -- the sheet has the history h
   abbrev pub HasHistory : Sheet B → History → Type 0

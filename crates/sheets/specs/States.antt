@@ -11,4 +11,4 @@ standing_of (Kit f) = kit f.numbers
 standing_of NoKit = no_kit
 
 abbrev pub state_of : Search → SearchState
-state_of s = record { boxes = waiting_boxes s.boxes s.waiting; standing = standing_of s.end }
+state_of s = record { boxes = waiting_boxes s.boxes.items; standing = standing_of s.end }

@@ -1,15 +1,12 @@
 -- One step of a search.
 use Rattle.std.specs.Prelude.{ℕ, cond, List, [], ◌∷◌, Some, None, Option}
+use Rattle.std.specs.Option.{option_and_then}
 use Rattle.kits.specs.Boxes.{single, first_half, second_half, lowest_filling}
-
-abbrev pub and_then : Option (List ℕ) → (List ℕ → Option (List ℕ)) → Option (List ℕ)
-and_then None k = None
-and_then (Some c) k = k c
 
 -- the box narrowed by each rule of the list in turn, or none where one fails
 abbrev pub narrowed_by_all : (ℕ → List ℕ → Option (List ℕ)) → List ℕ → List ℕ → Option (List ℕ)
 narrowed_by_all narrowed [] b = Some b
-narrowed_by_all narrowed (r ∷ rs) b = and_then (narrowed r b) (narrowed_by_all narrowed rs)
+narrowed_by_all narrowed (r ∷ rs) b = option_and_then (narrowed_by_all narrowed rs) (narrowed r b)
 
 -- how a search stands: not ended, or ended with a kit or with none
 pub data Standing : Type 0 where

@@ -1,7 +1,7 @@
 #![tactic(auto)]
 
 pub mod refusal;
-mod rule_sets;
+mod rule_set;
 pub mod search;
 pub mod sheet;
 pub mod sheet_copy;

@@ -4,18 +4,18 @@ ghost use Rattle.sheets.specs.Refusals.{number_of};
 // The question of a call that was answered "no".
 #[derive(Clone, Copy, PartialEq, Eq, Debug)]
 pub enum Refusal {
-    SearchOpen,
-    NoSearch,
-    NoRule,
-    RuleGone,
-    RuleInForce,
-    RuleNotInForce,
-    SlotUnused,
-    PartNotOffered,
-    SlotStandard,
-    OtherMark,
-    UnlawfulSets,
-    BudgetOutOfRange,
+    SearchOpen = 20,
+    NoSearch = 21,
+    NoRule = 22,
+    RuleGone = 23,
+    RuleInForce = 24,
+    RuleNotInForce = 25,
+    SlotUnused = 26,
+    PartNotOffered = 27,
+    SlotStandard = 28,
+    OtherMark = 29,
+    UnlawfulSets = 30,
+    BudgetOutOfRange = 31,
 }
 
 impl Refusal {
@@ -23,19 +23,6 @@ impl Refusal {
     pub fn number(self) -> u8
         ensures { result ≡ number_of self }
     {
-        match self {
-            Refusal::SearchOpen => 20,
-            Refusal::NoSearch => 21,
-            Refusal::NoRule => 22,
-            Refusal::RuleGone => 23,
-            Refusal::RuleInForce => 24,
-            Refusal::RuleNotInForce => 25,
-            Refusal::SlotUnused => 26,
-            Refusal::PartNotOffered => 27,
-            Refusal::SlotStandard => 28,
-            Refusal::OtherMark => 29,
-            Refusal::UnlawfulSets => 30,
-            Refusal::BudgetOutOfRange => 31,
-        }
+        self as u8
     }
 }

@@ -7,18 +7,19 @@ use Rattle.sheets.proofs.search.Search.work.Goals as goal
 
 pub loop-steps-preserved : goal.loop-steps-preserved
 loop-steps-preserved g c =
-    let s = state_of c.loop-steps.self in
-    let m = run_more (g.B.Book.narrowed c.args.book.now) (members c.args.rules) c.args.budget c.loop-steps.steps s (state_of c.step.new.self) c.loop-steps-test.true (sym c.if-not-is_ended.ensures) c.step.ensures in
-    (omega arith, m.0 ∙ c.loop-steps.invariant.1, omega (arith, m.1, c.loop-steps.invariant.2))
+    let i = c.loop-steps.invariant in
+    let m = run_more (g.B.Book.narrowed c.args.book.now) (members c.args.rules.bits) c.args.budget c.loop-steps.steps (state_of c.loop-steps.self) (state_of c.step.new.self) c.loop-steps-test.true (sym c.if-is_ended.ensures) c.step.ensures in
+    record { after = m.0 ∙ i.after; made = omega (arith, m.1, i.made) }
 
-pub returns-else-not-is_ended : goal.returns-else-not-is_ended
-returns-else-not-is_ended g c =
+pub returns-then-is_ended : goal.returns-then-is_ended
+returns-then-is_ended g c =
+    let i = c.loop-steps.invariant in
     let s = state_of c.loop-steps.self in
-    let m = run_ended (g.B.Book.narrowed c.args.book.now) (members c.args.rules) (c.args.budget - c.loop-steps.steps) s.boxes s.standing (sym c.if-not-is_ended.ensures) in
-    record { value = omega (arith, m.1, c.loop-steps.invariant.2); after = sym m.0 ∙ c.loop-steps.invariant.1; law = search_right }
+    let m = run_ended (g.B.Book.narrowed c.args.book.now) (members c.args.rules.bits) (c.args.budget - c.loop-steps.steps) s.boxes s.standing (sym c.if-is_ended.ensures) in
+    record { value = omega (arith, m.1, i.made); after = sym m.0 ∙ i.after; law = search_right }
 
-pub returns-after-loop-steps : goal.returns-after-loop-steps
-returns-after-loop-steps g c =
-    let s = state_of c.loop-steps.self in
-    let m = run_all (g.B.Book.narrowed c.args.book.now) (members c.args.rules) c.args.budget c.loop-steps.steps s c.loop-steps-test.false in
-    record { value = omega (arith, m.1, c.loop-steps.invariant.2); after = sym m.0 ∙ c.loop-steps.invariant.1; law = search_right }
+pub returns : goal.returns
+returns g c =
+    let i = c.loop-steps.invariant in
+    let m = run_all (g.B.Book.narrowed c.args.book.now) (members c.args.rules.bits) c.args.budget c.loop-steps.steps (state_of c.loop-steps.self) c.loop-steps-test.false in
+    record { value = omega (arith, m.1, i.made); after = sym m.0 ∙ i.after; law = search_right }

@@ -1,12 +1,12 @@
-use Rattle.std.proofs.Common.{◌≡◌, ◌^◌, ◌<◌}
+use Rattle.std.proofs.Common.{◌≡◌, length}
 use Rattle.sheets.specs.Sets.{members}
 use Rattle.sheets.specs.Steps.{narrowed_by_all}
 use Rattle.sheets.proofs.search.narrowing.narrow_by_all.Given as goal
 
-abbrev pub invariant-loop-left : goal.invariant-loop-left
-invariant-loop-left g l =
+abbrev pub invariant-loop-rule : goal.invariant-loop-rule
+invariant-loop-rule g l =
     let narrowed = g.B.Book.narrowed l.book in
-    (l.left < 2 ^ 64) × (narrowed_by_all narrowed (members l.left) l.narrowed.labels ≡ narrowed_by_all narrowed (members l.rules) l.initial.narrowed.labels)
+    narrowed_by_all narrowed (members l.left.bits) l.narrowed.labels ≡ narrowed_by_all narrowed (members l.fn.rules.bits) l.initial.narrowed.labels
 
-abbrev pub decreases-loop-left : goal.decreases-loop-left
-decreases-loop-left g l = l.left
+abbrev pub decreases-loop-rule : goal.decreases-loop-rule
+decreases-loop-rule g l = length (members l.left.bits)
