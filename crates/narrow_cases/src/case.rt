@@ -1,4 +1,5 @@
-use anyhow::anyhow;
+use anyhow::{Context, bail};
+use cases::numbers::parse_numbers;
 use kits::label_box::LabelBox;
 use std::alloc::Global;
 
@@ -35,43 +36,19 @@ impl<'a> Case<'a> {
                     labels: parse_box(heap, labels)?,
                 })
             }
-            _ => Err(anyhow!("a line has neither a book nor a box")),
+            _ => bail!("a line has neither a book nor a box"),
         }
     }
 }
 
 // What stands before the first space, and after it.
 fn cut(text: &str) -> anyhow::Result<(&str, &str)> {
-    match text.split_once(' ') {
-        Some(parts) => Ok(parts),
-        None => Err(anyhow!("a line is cut short")),
-    }
-}
-
-// Numbers by spaces, where `N*C` is the number C N times.
-fn parse_numbers(heap: Global, text: &str) -> anyhow::Result<Vec<u16>> {
-    let mut numbers = Vec::new(heap);
-    for word in text.split_whitespace() {
-        match word.split_once('*') {
-            Some((times, number)) => {
-                let number = number.parse::<u16>()?;
-                for _ in 0..times.parse::<u16>()? {
-                    numbers.push(number)?;
-                }
-            }
-            None => numbers.push(word.parse::<u16>()?)?,
-        }
-    }
-    Ok(numbers)
+    text.split_once(' ').context("a line is cut short")
 }
 
 fn parse_box(heap: Global, text: &str) -> anyhow::Result<LabelBox> {
-    let numbers = parse_numbers(heap, text)?;
-    let Ok(labels) = <[u16; 24]>::try_from(numbers) else {
-        return Err(anyhow!("a box has not 24 labels"));
-    };
-    match LabelBox::new(labels) {
-        Some(labels) => Ok(labels),
-        None => Err(anyhow!("a label has no member")),
-    }
+    let labels = <[u16; 24]>::try_from(parse_numbers(heap, text)?)
+        .ok()
+        .context("a box has not 24 labels")?;
+    LabelBox::new(labels).context("a label has no member")
 }

@@ -3,7 +3,7 @@
 // Prints the opening box of the practice catalogue, what each of its rules narrows it to, and a run of a sheet over it.
 use fields::fault::Fault;
 use forms::form::Form;
-use kits::book::{Book, Fit};
+use kits::book::Book;
 use kits::choices::Choices;
 use kits::label::Label;
 use kits::label_box::LabelBox;
@@ -11,29 +11,30 @@ use kits::slot_number::SlotNumber;
 use practice::practice_cells;
 use rule_books::table_book::TableBook;
 use sheet_run::print_sheet_run;
-use std::io;
+use std::{fmt, io};
 
 mod sheet_run;
 
 // A label as the list of its members.
-fn print_label(rt: &HostRuntime, label: Label) -> io::Result<()> {
-    let mut gap = "";
-    print!(rt; " {{")?;
-    for number in 0..16 {
-        if label.has(number) {
-            print!(rt; "{gap}{number}")?;
-            gap = " ";
+#[derive(Clone, Copy)]
+struct Members(Label);
+
+impl fmt::Display for Members {
+    fn fmt<W: fmt::Write>(&self, f: &mut fmt::Formatter<W>) -> fmt::Result {
+        let lowest = u32::from(self.0.lowest());
+        write!(f, "{{{lowest}")?;
+        for number in (lowest + 1..16).filter(|number| self.0.has(*number)) {
+            write!(f, " {number}")?;
         }
+        write!(f, "}}")
     }
-    print!(rt; "}}")
 }
 
 // The labels of the used slots.
 fn print_box(rt: &HostRuntime, form: &Form, b: &LabelBox) -> io::Result<()> {
-    for i in 0..form.used() {
-        if let Some(slot) = SlotNumber::new(i) {
-            print_label(rt, b.label(slot))?;
-        }
+    for slot in (0..form.used()).filter_map(SlotNumber::new) {
+        let members = Members(b.label(slot));
+        print!(rt; " {members}")?;
     }
     println!(rt; "")
 }
@@ -45,13 +46,12 @@ fn print_narrowing(rt: &HostRuntime, form: &Form, book: &TableBook) -> io::Resul
     print!(rt; "opening box, {volume} fillings:")?;
     print_box(rt, form, &opening)?;
     for rule in 0..book.count() {
-        let mut b = opening;
-        match book.narrow(rule, &mut b) {
-            Fit::Fits => {
+        match book.narrow(rule, &opening) {
+            Some(narrowed) => {
                 print!(rt; "narrowed by rule {rule}:")?;
-                print_box(rt, form, &b)?;
+                print_box(rt, form, &narrowed)?;
             }
-            Fit::Fails => println!(rt; "rule {rule} fails")?,
+            None => println!(rt; "rule {rule} fails")?,
         }
     }
     Ok(())

@@ -22,11 +22,9 @@ fn print_answer(rt: &HostRuntime, answer: Result<(), Refusal>) -> io::Result<()>
 // The numbers of the used slots.
 fn print_kit(rt: &HostRuntime, used: u32, kit: &Filling) -> io::Result<()> {
     print!(rt; "kit")?;
-    for i in 0..used {
-        if let Some(slot) = SlotNumber::new(i) {
-            let number = kit.number(slot);
-            print!(rt; " {number}")?;
-        }
+    for slot in (0..used).filter_map(SlotNumber::new) {
+        let number = kit.number(slot);
+        print!(rt; " {number}")?;
     }
     Ok(())
 }

@@ -1,5 +1,5 @@
 use crate::escape::unescape;
-use anyhow::anyhow;
+use anyhow::Context;
 use std::alloc::Global;
 
 // A text to read, and how many cells are lent for it.
@@ -13,12 +13,8 @@ pub(crate) struct Case<'a> {
 impl<'a> Case<'a> {
     // A line has the name, the room and the escaped text, with a space between two.
     pub(crate) fn parse(heap: Global, line: &'a str) -> anyhow::Result<Case<'a>> {
-        let Some((name, rest)) = line.split_once(' ') else {
-            return Err(anyhow!("a case has no room"));
-        };
-        let Some((room, text)) = rest.split_once(' ') else {
-            return Err(anyhow!("a case has no text"));
-        };
+        let (name, rest) = line.split_once(' ').context("a case has no room")?;
+        let (room, text) = rest.split_once(' ').context("a case has no text")?;
         Ok(Case {
             name,
             room: room.parse::<usize>()?,

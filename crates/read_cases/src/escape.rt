@@ -1,5 +1,5 @@
 // Escaped text: `\n` is a line end, `\xHH` a byte, `\\` a backslash, and `\{N|UNIT}` is UNIT N times.
-use anyhow::anyhow;
+use anyhow::{Context, bail};
 use std::alloc::Global;
 
 // What the next byte is.
@@ -77,7 +77,7 @@ impl Decoder {
                 self.repeats = Some(0);
                 self.state = State::Count;
             }
-            _ => return Err(anyhow!("an unknown escape")),
+            _ => bail!("an unknown escape"),
         }
         Ok(())
     }
@@ -96,7 +96,7 @@ impl Decoder {
                         .wrapping_add(usize::from(byte - b'0')),
                 );
             }
-            _ => return Err(anyhow!("a count is no number")),
+            _ => bail!("a count is no number"),
         }
         Ok(())
     }
@@ -111,9 +111,7 @@ impl Decoder {
 
     // The unit is whole: as often as it was asked for, it joins what came before.
     fn close(&mut self) -> anyhow::Result<()> {
-        let Some(times) = self.repeats.take() else {
-            return Err(anyhow!("a unit ends that none began"));
-        };
+        let times = self.repeats.take().context("a unit ends that none began")?;
         for _ in 0..times {
             self.out.extend_from_slice(self.unit.as_slice())?;
         }
@@ -129,7 +127,7 @@ impl Decoder {
         } = self;
         match (repeats, state) {
             (None, State::Plain) => Ok(out),
-            _ => Err(anyhow!("a text ends within an escape")),
+            _ => bail!("a text ends within an escape"),
         }
     }
 }
@@ -138,6 +136,6 @@ fn hex_digit(byte: u8) -> anyhow::Result<u8> {
     match byte {
         b'0'..=b'9' => Ok(byte - b'0'),
         b'a'..=b'f' => Ok(byte - b'a' + 10),
-        _ => Err(anyhow!("a byte is not hexadecimal")),
+        _ => bail!("a byte is not hexadecimal"),
     }
 }

@@ -2,7 +2,6 @@
 
 // Reads each case of standard input as a catalogue, and prints a line on what came of it.
 mod case;
-mod checksum;
 mod escape;
 mod verdict;
 
@@ -10,7 +9,8 @@ use case::Case;
 use std::io::{BufRead, BufReader};
 use verdict::Verdict;
 
-fn run(rt: &HostRuntime) -> anyhow::Result<()> {
+// The loop is the program, and names its own types: over a function that takes a closure nothing of it would be shorter.
+fn main(rt: HostRuntime) -> anyhow::Result<()> {
     let heap = rt.alloc();
     for line in BufReader::new(heap, rt.stdin())?.lines(heap) {
         let line = line?;
@@ -20,8 +20,4 @@ fn run(rt: &HostRuntime) -> anyhow::Result<()> {
         println!(rt; "{name} {verdict}")?;
     }
     Ok(())
-}
-
-fn main(rt: HostRuntime) -> anyhow::Result<()> {
-    run(&rt)
 }

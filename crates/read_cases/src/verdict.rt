@@ -1,6 +1,7 @@
 use crate::case::Case;
-use crate::checksum::of_cells;
-use fields::fault::{Fault, Layer};
+use cases::checksum::Checksum;
+use cases::lent::is_touched;
+use fields::fault::Fault;
 use std::alloc::{AllocError, Global};
 use std::fmt;
 
@@ -25,11 +26,8 @@ impl Verdict {
     pub(crate) fn of(heap: Global, case: &Case<'_>) -> Result<Verdict, AllocError> {
         let mut lent = vec![in heap; UNTOUCHED; case.room]?;
         let read = catalogue::read(case.text.as_slice(), lent.as_mut_slice());
-        let count = match read {
-            Ok(count) => count,
-            Err(_) => 0,
-        };
-        let touched = is_touched(lent.as_slice(), count);
+        let count = read.unwrap_or(0);
+        let touched = is_touched(lent.as_slice(), count, &UNTOUCHED);
         let cells = lent.iter().take(count).copied().collect(heap)?;
         let checked = catalogue::check(case.text.as_slice());
         Ok(Verdict {
@@ -41,23 +39,13 @@ impl Verdict {
     }
 }
 
-// Whether a cell past the first ones was changed.
-fn is_touched(cells: &[u16], first: usize) -> bool {
-    for cell in cells.iter().skip(first) {
-        if *cell != UNTOUCHED {
-            return true;
-        }
+// The fault, and that no layer asked where none did.
+fn show_fault<W: fmt::Write>(fault: Fault, f: &mut fmt::Formatter<W>) -> fmt::Result {
+    write!(f, "{fault}")?;
+    if fault.kind.layer().is_none() {
+        write!(f, " layer=none")?;
     }
-    false
-}
-
-fn layer_name(layer: Option<Layer>) -> &'static str {
-    match layer {
-        Some(Layer::Line) => "line",
-        Some(Layer::Field) => "field",
-        Some(Layer::Catalogue) => "catalogue",
-        None => "none",
-    }
+    Ok(())
 }
 
 fn show_answer<W: fmt::Write>(
@@ -66,18 +54,20 @@ fn show_answer<W: fmt::Write>(
 ) -> fmt::Result {
     match answer {
         Ok(count) => write!(f, "cells={count}"),
-        Err(fault) => {
-            let line = fault.line;
-            let code = fault.kind.number();
-            let layer = layer_name(fault.kind.layer());
-            write!(f, "line={line} code={code} layer={layer}")
-        }
+        Err(fault) => show_fault(fault, f),
     }
+}
+
+// Over the low and the high byte of each cell.
+fn checksum(cells: &[u16]) -> Checksum {
+    cells
+        .iter()
+        .fold(Checksum::new(), |sum, cell| sum.with(&cell.to_le_bytes()))
 }
 
 fn show_cells<W: fmt::Write>(cells: &[u16], f: &mut fmt::Formatter<W>) -> fmt::Result {
     if cells.len() > MOST_SHOWN {
-        let sum = of_cells(cells);
+        let sum = checksum(cells).value();
         return write!(f, " fnv={sum:016x}");
     }
     for cell in cells {

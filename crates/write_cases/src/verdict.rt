@@ -1,7 +1,8 @@
 use crate::case::Case;
-use crate::checksum::checksum;
 use crate::escape::Escaped;
-use fields::fault::{Fault, Layer};
+use cases::checksum::Checksum;
+use cases::lent::is_touched;
+use fields::fault::Fault;
 use std::alloc::{AllocError, Global};
 use std::fmt;
 
@@ -26,11 +27,8 @@ impl Verdict {
     pub(crate) fn of(heap: Global, case: &Case<'_>) -> Result<Verdict, AllocError> {
         let mut lent = vec![in heap; UNTOUCHED; case.room]?;
         let written = catalogue::write(case.cells.as_slice(), lent.as_mut_slice());
-        let count = match written {
-            Ok(count) => count,
-            Err(_) => 0,
-        };
-        let touched = is_touched(lent.as_slice(), count);
+        let count = written.unwrap_or(0);
+        let touched = is_touched(lent.as_slice(), count, &UNTOUCHED);
         let text = lent.iter().take(count).copied().collect(heap)?;
         let lawful = catalogue::is_lawful(case.cells.as_slice());
         Ok(Verdict {
@@ -42,34 +40,17 @@ impl Verdict {
     }
 }
 
-// Whether a byte past the first ones was changed.
-fn is_touched(bytes: &[u8], first: usize) -> bool {
-    for byte in bytes.iter().skip(first) {
-        if *byte != UNTOUCHED {
-            return true;
-        }
-    }
-    false
-}
-
-fn layer_name(layer: Option<Layer>) -> &'static str {
-    match layer {
-        Some(Layer::Line) => "line",
-        Some(Layer::Field) => "field",
-        Some(Layer::Catalogue) => "catalogue",
-        None => "none",
-    }
-}
-
+// The fault; of cells no layer asks.
 fn show_fault<W: fmt::Write>(fault: Fault, f: &mut fmt::Formatter<W>) -> fmt::Result {
-    let line = fault.line;
-    let code = fault.kind.number();
-    let layer = layer_name(fault.kind.layer());
-    write!(f, " line={line} code={code} layer={layer}")
+    write!(f, " {fault}")?;
+    if fault.kind.layer().is_none() {
+        write!(f, " layer=none")?;
+    }
+    Ok(())
 }
 
 fn show_text<W: fmt::Write>(text: &[u8], f: &mut fmt::Formatter<W>) -> fmt::Result {
-    let sum = checksum(text);
+    let sum = Checksum::new().with(text).value();
     write!(f, " fnv={sum:016x}")?;
     if text.len() <= MOST_SHOWN {
         let shown = Escaped(text);

@@ -1,0 +1,2 @@
+pub mod Checksums
+pub mod Numbers

@@ -1,0 +1,5 @@
+#![tactic(auto)]
+
+pub mod checksum;
+pub mod lent;
+pub mod numbers;
