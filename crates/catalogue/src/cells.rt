@@ -55,7 +55,7 @@ fn rows_fit(slots: &Slots, of: &[u32], count: usize, rows: &[u16]) -> bool
     requires { length of.now ≤ 4 }
     ensures { result ≡ all (row_lawful (map (offered (listed slots.now)) of.now)) (rows_of count (length of.now) rows.now) }
 {
-    // By cuts, since chunks ask for a width above 0 and leave out a row that is cut short; a lack is a no, which `?` cannot answer.
+    // By cuts, since chunks ask for a width above 0 and leave out a row that is cut short; a closure for a lack would hold the rest of the loop.
     let mut left = rows;
     for _ in 0..count {
         let Some((row, after)) = cut_cells(left, of.len()) else {
@@ -76,7 +76,7 @@ fn rows_fit(slots: &Slots, of: &[u32], count: usize, rows: &[u16]) -> bool
 fn rule_fits(slots: &Slots, rule: RuleCells) -> bool
     ensures { result ≡ rule_lawful (listed slots.now) (rule_in rule.entry) }
 {
-    // A lack is a no, which `?` cannot answer.
+    // By a `let`: with the rest in a closure the proof did not close.
     let Some(of) = Numbers::of_cells(rule.slots) else {
         return false;
     };
@@ -122,19 +122,16 @@ pub fn take_rule<'a>(cells: &'a [u16], slots: &Slots) -> Option<(RuleCells<'a>, 
     rule_fits(slots, rule).then_some((rule, after))
 }
 
-// Are the cells so many lawful rules, and nothing after them?
-fn rules_fit(slots: &Slots, count: u16, cells: &[u16]) -> bool
-    ensures { result ≡ is_some (rules_of count (listed slots.now) cells.now) }
+// Goes over so many lawful rules, which are all the cells, or there is none.
+fn pass_rules(slots: &Slots, count: u16, cells: &[u16]) -> Option<()>
+    ensures { is_some result ≡ is_some (rules_of count (listed slots.now) cells.now) }
 {
     let mut left = cells;
     for _ in 0..count {
-        // A lack is a no, which `?` cannot answer.
-        let Some((_, after)) = take_rule(left, slots) else {
-            return false;
-        };
+        let (_, after) = take_rule(left, slots)?;
         left = after;
     }
-    left.is_empty()
+    left.is_empty().then_some(())
 }
 
 // At most 8,192 cells, taken apart as those of a catalogue of at most 64 rules: its slots and rules are not looked at.
@@ -167,7 +164,8 @@ pub fn lawful_slots(cells: &[u16]) -> Option<Slots>
 {
     let catalogue = take_catalogue(cells)?;
     let slots = slots_of_cells(catalogue.slots)?;
-    rules_fit(&slots, catalogue.count, catalogue.rules).then_some(slots)
+    pass_rules(&slots, catalogue.count, catalogue.rules)?;
+    Some(slots)
 }
 
 // Are cells those of a lawful catalogue?

@@ -38,12 +38,10 @@ pub(crate) fn number_line(
 fn is_standard(word: &[u8]) -> Option<bool>
     ensures { result ≡ standing word.now }
 {
-    if word == b"standard".as_slice() {
-        Some(true)
-    } else if word == b"optional".as_slice() {
-        Some(false)
-    } else {
-        None
+    match word {
+        b"standard" => Some(true),
+        b"optional" => Some(false),
+        _ => None,
     }
 }
 
@@ -67,6 +65,7 @@ pub(crate) fn slot_line(reader: &mut Reader) -> Result<Slot, Fault>
         return Err(FaultKind::OutOfRange.at(line));
     }
     Ok(Slot {
+        // By a cast, since the line above has asked for 1 to 15.
         parts: parts as u16,
         standard,
     })
@@ -82,12 +81,12 @@ fn word_number(word: &[u8], text: &[u8]) -> Option<u32>
 fn kind_of(text: &[u8]) -> Option<Kind>
     ensures { result ≡ kind_value text.now }
 {
-    if text == b"goes".as_slice() {
-        return Some(Kind::Goes);
+    match text {
+        b"goes" => Some(Kind::Goes),
+        _ => word_number(b"needs", text)
+            .map(Kind::Needs)
+            .or_else(|| word_number(b"bars", text).map(Kind::Bars)),
     }
-    word_number(b"needs", text)
-        .map(Kind::Needs)
-        .or_else(|| word_number(b"bars", text).map(Kind::Bars))
 }
 
 // The line that begins a rule: its kind, with t a used slot.

@@ -26,7 +26,7 @@ impl Slot {
         }
     }
 
-    // Its cell: beside its inverse, and for this crate alone, which a From would not be.
+    // Its cell: by a method beside its inverse, no longer than a From.
     pub(crate) fn cell(self) -> u32
         ensures { result ≡ slot_cell self }
     {
@@ -62,7 +62,7 @@ impl Kind {
         }
     }
 
-    // Its two cells: beside its inverse, and for this crate alone.
+    // Its two cells: by name, which a From to a pair would not have.
     pub(crate) fn cells(self) -> (u32, u32)
         ensures { (result.0 ≡ kind_cell self) × (result.1 ≡ target_cell self) }
     {

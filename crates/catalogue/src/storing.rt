@@ -14,6 +14,7 @@ use fields::numbers::Numbers;
 pub(crate) fn keep<T: Copy, const N: usize>(out: &mut ArrayVec<T, N>, items: &[T])
     ensures { out.new.items ≡ held N out.old.items items.now }
 {
+    // One by one: many short pieces are kept, and slices copied at once made a long text twice as slow.
     for item in items {
         if !out.is_full() {
             out.push(*item);

@@ -104,6 +104,7 @@ fn put_rows(out: &mut Text, count: usize, wide: usize, rows: &[u16])
     requires { count * wide ≤ length rows.now }
     ensures { out.new.items ≡ held 65536 out.old.items (rows_text (rows_of count wide rows.now) []) }
 {
+    // By cuts, since chunks ask for a width above 0.
     let mut left = rows;
     for _ in 0..count {
         let (row, others) = left.split_at(wide);
@@ -143,6 +144,7 @@ fn put_rules(out: &mut Text, slots: &Slots, count: u16, cells: &[u16]) -> Option
         put_rule(out, rule);
         left = after;
     }
+    // By an `if`, since the proof shows its two ends apart, and did not close over `then_some`.
     if left.is_empty() { Some(()) } else { None }
 }
 

@@ -45,6 +45,7 @@ fn line_place(text: &[u8], line: u32) -> Option<(usize, usize)>
     if line == 0 {
         return None;
     }
+    // By places in the text, since the line is promised to lie in it.
     let mut from = 0usize;
     for _ in 1..line {
         let (bytes, _) = cut(&text[from..])?;

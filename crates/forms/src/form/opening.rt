@@ -38,10 +38,10 @@ impl Form {
         requires { choice_lawful choice ≡ true }
         ensures { result ≡ slot_label (used_slots self.now) slot choice }
     {
-        match self.slots.as_slice().get(slot) {
-            Some(slot) => chosen_label(*slot, choice),
-            None => 1,
-        }
+        self.slots
+            .as_slice()
+            .get(slot)
+            .map_or(1, |slot| chosen_label(*slot, choice))
     }
 
     // The opening box under these choices: what each slot may take.
