@@ -38,6 +38,7 @@ fn can_spare(rule: TableRule, b: &LabelBox) -> bool
     ensures { result ≡ some_in (spares (rule_in rule.entry.cells).rows) (at_slots rule.entry.cells.slots.now b.now.labels) }
 {
     let labelled = Labelled::of(rule, b);
+    // The place past the last is that of no slot, so none is left out.
     labelled.other_empty(rule.cells.slots.len()) || labelled.some_no_row()
 }
 
@@ -51,7 +52,7 @@ fn narrow_beside(t: u32, mask: u16, rule: TableRule, b: &LabelBox) -> Option<Lab
     let Some(met) = Label::new(label.bits() & mask) else {
         return narrow_slots::<Spares>(rule, b);
     };
-    if met.bits() == label.bits() || can_spare(rule, b) {
+    if met == label || can_spare(rule, b) {
         return Some(*b);
     }
     let mut narrowed = *b;

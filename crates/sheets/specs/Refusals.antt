@@ -1,5 +1,5 @@
 -- Refusals: their numbers, and the questions that each call is asked, in their order.
-use Rattle.std.specs.Prelude.{◌≡◌, ℕ, ◌^◌, ◌<◌, Bool, true, cond, not, ◌&&◌, List, Some, None, Option, ◌==◌, bit_and, nat_le, nat_lt}
+use Rattle.std.specs.Prelude.{◌≡◌, ℕ, ◌^◌, ◌<◌, Bool, true, cond, not, ◌&&◌, List, ◌++◌, codes, decimal, Some, None, Option, ◌==◌, bit_and, nat_le, nat_lt}
 use Rattle.catalogue.specs.declared.model.Slot.{Slot}
 use Rattle.catalogue.specs.Lawful.{offered}
 use Rattle.kits.specs.Labels.{Has}
@@ -21,6 +21,10 @@ number_of SlotStandard = 28
 number_of OtherMark = 29
 number_of UnlawfulSets = 30
 number_of BudgetOutOfRange = 31
+
+-- what is printed of a refusal
+abbrev pub refusal_text : Refusal → List ℕ
+refusal_text r = codes "refused by " ++ decimal (number_of r)
 
 -- does slot k offer the part v?
 abbrev pub part_offered : List Slot → ℕ → ℕ → Bool

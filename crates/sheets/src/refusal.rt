@@ -1,5 +1,8 @@
-ghost use Rattle.std.specs.Prelude.{◌≡◌};
-ghost use Rattle.sheets.specs.Refusals.{number_of};
+ghost use Rattle.std.specs.Prelude.{◌≡◌, Some};
+ghost use Rattle.sheets.specs.Refusals.{number_of, refusal_text};
+
+use std::error::Error;
+use std::fmt;
 
 // The question of a call that was answered "no".
 #[derive(Clone, Copy, PartialEq, Eq, Debug)]
@@ -26,3 +29,14 @@ impl Refusal {
         self as u8
     }
 }
+
+impl fmt::Display for Refusal {
+    ghost output = { λ refusal. Some (refusal_text refusal) };
+
+    fn fmt<W: fmt::Write>(&self, f: &mut fmt::Formatter<W>) -> fmt::Result {
+        let number = self.number();
+        write!(f, "refused by {number}")
+    }
+}
+
+impl Error for Refusal {}

@@ -17,6 +17,7 @@ fn no_row_after(rule: &TableRule, chosen: Listed<4>, labels: &[u16]) -> bool
     let [label, others @ ..] = labels else {
         return !rule.has_row(chosen.as_slice());
     };
+    // By a loop, since `any` would hold the recursion in a closure.
     for v in 0..16u16 {
         if has(*label, v) {
             let mut next = chosen;
