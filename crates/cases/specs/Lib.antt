@@ -1,2 +1,3 @@
 pub mod Checksums
 pub mod Numbers
+pub mod Shown

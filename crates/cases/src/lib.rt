@@ -3,3 +3,4 @@
 pub mod checksum;
 pub mod lent;
 pub mod numbers;
+pub mod shown;

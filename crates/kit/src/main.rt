@@ -40,6 +40,7 @@ fn print_cells(rt: &HostRuntime, cells: &[u16]) -> io::Result<()> {
 
 // Writes the cells as a text again, and says whether that is the text that they were read from.
 fn print_written(rt: &HostRuntime, cells: &[u16], text: &[u8]) -> io::Result<()> {
+    // Lent to the call, which asks for all the room that it may take: a Vec would be made as long first.
     let mut again = [0u8; TEXT_ROOM];
     match write(cells, &mut again) {
         Ok(count) if &again[0..count] == text => println!(rt;
@@ -59,6 +60,7 @@ fn main(rt: HostRuntime) -> anyhow::Result<()> {
     let text = text.as_slice();
     let long = text.len();
     println!(rt; "catalogue.txt: {long} bytes")?;
+    // Lent to the call, as above.
     let mut cells = [0u16; CELL_ROOM];
     match read(text, &mut cells) {
         Ok(count) => {

@@ -28,16 +28,14 @@ impl fmt::Display for Outcome {
         };
         write!(f, "{answer}")?;
         let after = self.narrowed.unwrap_or(self.before);
-        let mut same = true;
         for slot in (0..24).filter_map(SlotNumber::new) {
             let label = after.label(slot).bits();
             if label != self.before.label(slot).bits() {
                 let number = slot.index();
                 write!(f, " {number}={label}")?;
-                same = false;
             }
         }
-        if same {
+        if after == self.before {
             write!(f, " same")?;
         }
         Ok(())

@@ -12,10 +12,7 @@ use std::io;
 fn print_answer(rt: &HostRuntime, answer: Result<(), Refusal>) -> io::Result<()> {
     match answer {
         Ok(()) => println!(rt; "done"),
-        Err(refusal) => {
-            let number = refusal.number();
-            println!(rt; "refused by {number}")
-        }
+        Err(refusal) => println!(rt; "{refusal}"),
     }
 }
 

@@ -13,6 +13,7 @@ pub(crate) struct Case<'a> {
 impl<'a> Case<'a> {
     // A line has the name, the room and the escaped text, with a space between two.
     pub(crate) fn parse(heap: Global, line: &'a str) -> anyhow::Result<Case<'a>> {
+        // Two cuts with a message each, as short as one shared call with both.
         let (name, rest) = line.split_once(' ').context("a case has no room")?;
         let (room, text) = rest.split_once(' ').context("a case has no text")?;
         Ok(Case {

@@ -1,6 +1,7 @@
 use crate::case::Case;
 use cases::checksum::Checksum;
 use cases::lent::is_touched;
+use cases::shown::Shown;
 use fields::fault::Fault;
 use std::alloc::{AllocError, Global};
 use std::fmt;
@@ -28,24 +29,15 @@ impl Verdict {
         let read = catalogue::read(case.text.as_slice(), lent.as_mut_slice());
         let count = read.unwrap_or(0);
         let touched = is_touched(lent.as_slice(), count, &UNTOUCHED);
-        let cells = lent.iter().take(count).copied().collect(heap)?;
+        lent.truncate(count);
         let checked = catalogue::check(case.text.as_slice());
         Ok(Verdict {
             read,
             checked,
-            cells,
+            cells: lent,
             touched,
         })
     }
-}
-
-// The fault, and that no layer asked where none did.
-fn show_fault<W: fmt::Write>(fault: Fault, f: &mut fmt::Formatter<W>) -> fmt::Result {
-    write!(f, "{fault}")?;
-    if fault.kind.layer().is_none() {
-        write!(f, " layer=none")?;
-    }
-    Ok(())
 }
 
 fn show_answer<W: fmt::Write>(
@@ -54,7 +46,10 @@ fn show_answer<W: fmt::Write>(
 ) -> fmt::Result {
     match answer {
         Ok(count) => write!(f, "cells={count}"),
-        Err(fault) => show_fault(fault, f),
+        Err(fault) => {
+            let fault = Shown(fault);
+            write!(f, "{fault}")
+        }
     }
 }
 

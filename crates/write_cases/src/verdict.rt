@@ -2,6 +2,7 @@ use crate::case::Case;
 use crate::escape::Escaped;
 use cases::checksum::Checksum;
 use cases::lent::is_touched;
+use cases::shown::Shown;
 use fields::fault::Fault;
 use std::alloc::{AllocError, Global};
 use std::fmt;
@@ -29,24 +30,15 @@ impl Verdict {
         let written = catalogue::write(case.cells.as_slice(), lent.as_mut_slice());
         let count = written.unwrap_or(0);
         let touched = is_touched(lent.as_slice(), count, &UNTOUCHED);
-        let text = lent.iter().take(count).copied().collect(heap)?;
+        lent.truncate(count);
         let lawful = catalogue::is_lawful(case.cells.as_slice());
         Ok(Verdict {
             lawful,
             written,
-            text,
+            text: lent,
             touched,
         })
     }
-}
-
-// The fault; of cells no layer asks.
-fn show_fault<W: fmt::Write>(fault: Fault, f: &mut fmt::Formatter<W>) -> fmt::Result {
-    write!(f, " {fault}")?;
-    if fault.kind.layer().is_none() {
-        write!(f, " layer=none")?;
-    }
-    Ok(())
 }
 
 fn show_text<W: fmt::Write>(text: &[u8], f: &mut fmt::Formatter<W>) -> fmt::Result {
@@ -68,7 +60,10 @@ impl fmt::Display for Verdict {
                 write!(f, " bytes={count}")?;
                 show_text(self.text.as_slice(), f)?;
             }
-            Err(fault) => show_fault(fault, f)?,
+            Err(fault) => {
+                let fault = Shown(fault);
+                write!(f, " {fault}")?;
+            }
         }
         if self.touched {
             write!(f, " touched")?;
