@@ -65,7 +65,7 @@ pub(crate) fn slot_line(reader: &mut Reader) -> Result<Slot, Fault>
         return Err(FaultKind::OutOfRange.at(line));
     }
     Ok(Slot {
-        // By a cast, since the line above has asked for 1 to 15.
+        // By a cast: five digits are read, whose range is asked only then.
         parts: parts as u16,
         standard,
     })

@@ -50,7 +50,7 @@ impl Kind {
     ghost use Rattle.std.specs.Prelude.{◌≡◌};
     ghost use Rattle.catalogue.specs.Cells.{kind_of, kind_cell, target_cell};
 
-    // The kind of two cells: its number, and t. An Option, as its definition is.
+    // The kind of two cells: its number, and t. An Option, as its definition is: a TryFrom would need an error that nobody reads.
     pub(crate) fn of_cells(kind: u16, t: u16) -> Option<Kind>
         ensures { result ≡ kind_of kind t }
     {

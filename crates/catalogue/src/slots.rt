@@ -2,8 +2,7 @@ ghost use Rattle.std.specs.Prelude.{◌≤◌};
 
 use crate::model::Slot;
 
-// The used slots of a catalogue, at most 24: an array and a count, for a value that is copied and lies in no heap.
-// A type for slots alone, since a generic struct holds no array of a type parameter.
+// The used slots of a catalogue, at most 24: an array and a count, for a value that lies in no heap and is copied, which the library's vector of fixed room is not.
 #[derive(Clone, Copy)]
 pub struct Slots {
     list: [Slot; 24],

@@ -37,7 +37,7 @@ pub enum Source {
     Orders,
 }
 
-// A refusal: the question, and the line that it was asked of, from 1, or 0 where it names none.
+// A refusal: the question, and the line that it was asked of, from 1, or 0 where it names none, as the format of a fault has it.
 #[derive(Clone, Copy, Debug, PartialEq, Eq)]
 pub struct Fault {
     pub kind: FaultKind,

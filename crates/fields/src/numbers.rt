@@ -4,8 +4,7 @@ mod listed;
 
 pub use listed::past_space;
 
-// Up to four numbers of one line, in an array with a count: the value is copied, and takes no heap.
-// A type for these numbers alone, since a generic struct holds no array of a type parameter.
+// Up to four numbers of one line, in an array with a count: the value takes no heap, and is copied, which the library's vector of fixed room is not.
 #[derive(Clone, Copy)]
 pub struct Numbers {
     values: [u32; 4],

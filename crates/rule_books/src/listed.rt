@@ -3,7 +3,6 @@ ghost use Rattle.std.specs.Prelude.{◌≤◌};
 mod calls;
 
 // At most N numbers, one after another, in no heap. A book is copied, and the library's `ArrayVec` is not.
-// For numbers of 16 bits alone, since a generic struct holds no array of a type parameter.
 #[derive(Clone, Copy)]
 pub(crate) struct Listed<const N: usize> {
     numbers: [u16; N],
