@@ -29,10 +29,11 @@ impl fmt::Display for Outcome {
         write!(f, "{answer}")?;
         let after = self.narrowed.unwrap_or(self.before);
         for slot in (0..24).filter_map(SlotNumber::new) {
-            let label = after.label(slot).bits();
-            if label != self.before.label(slot).bits() {
+            let label = after.label(slot);
+            if label != self.before.label(slot) {
                 let number = slot.index();
-                write!(f, " {number}={label}")?;
+                let bits = label.bits();
+                write!(f, " {number}={bits}")?;
             }
         }
         if after == self.before {
