@@ -1,7 +1,7 @@
 -- Laws of a box.
-use Rattle.std.proofs.Common.{◌≡◌, ℕ, zero, suc, ◌+◌, ◌*◌, ◌^◌, ◌<◌, ◌≤◌, Bool, true, false, not, ◌&&◌, eqb, ◌⊎◌, List, [], ◌∷◌, length, get_or, drop, set, Some, None, sym, refl, ap, ◌∙◌, inl, inr, ⊎_elim, suc-le-suc, le_of_suc-le-suc, mul_assoc, add-mul, one-mul, pow-suc, add-one, arith, drop-cons}
+use Rattle.std.proofs.Common.{◌≡◌, ℕ, zero, suc, ◌+◌, ◌^◌, ◌<◌, ◌≤◌, Bool, true, false, not, ◌&&◌, eqb, ◌⊎◌, List, [], ◌∷◌, length, get_or, drop, set, Some, None, sym, refl, ap, ◌∙◌, inl, inr, ⊎_elim, suc-le-suc, le_of_suc-le-suc, add-mul, one-mul, pow-suc, arith}
 use lib.Count.{ones, count_trailing_zeros}
-use Rattle.std.proofs.lemmas.List.{at_drop_more, at_drop_all, length-set, get_or-set_same, get_or-set_other, get_or-map, length-map}
+use Rattle.std.proofs.lemmas.List.{length-set, get_or-set_same, get_or-set_other, get_or-map, length-map}
 use Rattle.std.proofs.lemmas.Nat.{mul-le, ones-le}
 use Rattle.std.proofs.lemmas.List.Recursion.{and_at}
 use Rattle.std.proofs.lemmas.Bool.{not-true, ne_eqb, eqb-true, eqb-false, cases_Bool, cases_eq, true≢false}
@@ -194,20 +194,6 @@ volume_small [] s = omega arith
 volume_small (l ∷ b) s =
     let m = mul-le (ones l) (volume b) 16 (16 ^ length b) (ones-le 16 l (s 0 (omega arith))) (volume_small b (λ k h. s (suc k) (suc-le-suc h))) in
     omega (arith, m, pow-suc 16 (length b))
-
--- the loop of `volume`, one slot on
-pub volume_more : (b : List ℕ) (v i : ℕ) → i < length b → v * volume (drop i b) ≡ volume b → v * ones (get_or b i 0) * volume (drop (i + 1) b) ≡ volume b
-volume_more b v i h e =
-    mul_assoc v (ones (get_or b i 0)) (volume (drop (i + 1) b)) ∙ ap (λ (x : ℕ). v * x) (sym (at_drop_more volume b i 0 h)) ∙ e
-
--- the loop of `holds`, one slot on and at its end
-pub holds_more : (b f : List ℕ) (i v : ℕ) (t : Bool) → i < length b → i < length f → v ≡ get_or f i 0 → t ≡ has_member (get_or b i 0) v
-    → holds (drop i b) (drop i f) ≡ (t && holds (drop (i + 1) b) (drop (i + 1) f))
-holds_more b f i v t h n e u =
-    rw (drop-cons b i 0, drop-cons f i 0, add-one) (ap (λ (x : Bool). x && holds (drop (suc i) b) (drop (suc i) f)) (rw (← e) (sym u)))
-
-pub holds_end : (b f : List ℕ) (i : ℕ) → length b ≤ i → length f ≤ i → holds (drop i b) (drop i f) ≡ true
-holds_end b f i h n = at_drop_all (λ (x : List ℕ). holds x (drop i f)) b i h ∙ at_drop_all (λ (x : List ℕ). holds [] x) f i n
 
 -- the same of the labels beside the numbers
 pub holds_zip : (b f : List ℕ) → length b ≡ length f → list_all (λ p. has_member p.0 p.1) (zip b f) ≡ holds b f
