@@ -1,5 +1,7 @@
 #![tactic(auto)]
 
+ghost use Rattle.std.specs.Prelude.{◌≤◌, length, IfOk};
+
 use anyhow::Context;
 use catalogue::{read, write};
 use fields::fault::Fault;
@@ -12,6 +14,21 @@ use std::io::{Read, Write};
 const TEXT_ROOM: usize = 65_537;
 
 const CELL_ROOM: usize = 8192;
+
+// Reads until the source ends or the buffer is full, and answers how many bytes came.
+fn fill<R: Read>(from: &mut R, buffer: &mut [u8]) -> io::Result<usize>
+    ensures { IfOk result (λ n. n ≤ length buffer.old) }
+{
+    let mut n = 0;
+    while n < buffer.len() {
+        let got = from.read(&mut buffer[n..])?;
+        if got == 0 {
+            break;
+        }
+        n += got;
+    }
+    Ok(n)
+}
 
 // A refusal, and then the line that it names, if there is one.
 fn print_fault(rt: &HostRuntime, fault: Fault, text: &[u8]) -> io::Result<()> {
@@ -52,13 +69,13 @@ fn print_written(rt: &HostRuntime, cells: &[u16], text: &[u8]) -> io::Result<()>
 }
 
 fn main(rt: HostRuntime) -> anyhow::Result<()> {
-    let file = File::open(&rt, "catalogue.txt")
+    let mut file = File::open(&rt, "catalogue.txt")
         .ok()
         .context("catalogue.txt cannot be opened")?;
-    let mut text = Vec::new(rt.alloc());
-    file.take(TEXT_ROOM as u64).read_to_end(&mut text)?;
-    let text = text.as_slice();
-    let long = text.len();
+    // In fixed room, so that the program needs no heap, and so cannot run out of it.
+    let mut buffer = [0u8; TEXT_ROOM];
+    let long = fill(&mut file, &mut buffer)?;
+    let text = &buffer[..long];
     println!(rt; "catalogue.txt: {long} bytes")?;
     // Lent to the call, as above.
     let mut cells = [0u16; CELL_ROOM];
