@@ -1,16 +1,18 @@
 -- Cells that are taken apart: by slice patterns, and by loops that go on with what is left.
-use Rattle.std.proofs.Common.{◌≡◌, ℕ, zero, suc, ◌+◌, ◌-◌, ◌<◌, Bool, true, false, cond, ◌&&◌, List, [], ◌∷◌, ◌++◌, map, length, get_or, take, drop, is_some, Some, None, Option, sym, refl, ap, ◌∙◌, ⊎_elim, append_assoc, arith, length-take}
+use Rattle.std.proofs.Common.{◌≡◌, ℕ, zero, suc, ◌+◌, ◌-◌, ◌*◌, ◌<◌, Bool, true, false, cond, ◌&&◌, List, [], ◌∷◌, ◌++◌, map, length, get_or, take, drop, is_some, Some, None, Option, sym, refl, ap, ◌∙◌, ⊎_elim, append_assoc, arith, length-take}
 use lib.ListN.{length-map}
 use Rattle.std.specs.Bool.{then_some}
 use Rattle.std.specs.Option.{option_map}
-use Rattle.std.proofs.lemmas.List.{at_drop_more}
+use Rattle.std.proofs.lemmas.List.{take_rest, at_drop_more}
 use Rattle.std.proofs.lemmas.Bool.{cases_Bool}
+use Rattle.fields.proofs.Views.{rest}
 use Rattle.fields.specs.Results.{and_then}
+use Rattle.catalogue.specs.declared.model.Kind.{Kind}
 use Rattle.catalogue.specs.declared.model.Slot.{Slot}
 use Rattle.catalogue.specs.Catalogues.{Rule}
-use Rattle.catalogue.specs.Cells.{slot_of, slot_first, slots_of, counted, rows_of, rule_of, rules_of}
+use Rattle.catalogue.specs.Cells.{slot_of, slot_first, slots_of, kind_of, cut_cells, counted, rows_of, rule_begun, rule_of, rules_of}
 use Rattle.catalogue.specs.Lawful.{all, row_lawful}
-use Rattle.catalogue.proofs.CellLaws.{row_wide}
+use Rattle.catalogue.proofs.CellLaws.{cut_says, row_wide}
 
 -- what a slice pattern calls `rest` after its first k elements
 abbrev pub rest_after : ℕ → List ℕ → List ℕ
@@ -19,6 +21,10 @@ rest_after k xs = take (length xs - k) (drop k xs)
 pub counted_none : (cs : List ℕ) → length cs < 1 → counted cs ≡ None
 counted_none [] h = refl
 counted_none (c ∷ cs) h = absurd (omega arith)
+
+pub counted_some : (cs : List ℕ) → 0 < length cs → counted cs ≡ Some (get_or cs 0 0, rest cs)
+counted_some [] h = absurd (omega arith)
+counted_some (c ∷ cs) h = rw (take_rest (c ∷ cs) 1)
 
 -- slots that are found, in front of those that come
 abbrev pub with_front : List Slot → Option (List Slot × List ℕ) → Option (List Slot × List ℕ)
@@ -70,6 +76,34 @@ rows_short f of n cs h short =
     (λ (e : row_lawful (map f of) (take (length of) cs) ≡ true). absurd (omega (arith, row_wide (map f of) _ e, length-take (length of) cs, length-map of f)))
     (λ e. rows_failed (row_lawful (map f of)) n (length of) cs h e)
     (cases_Bool (row_lawful (map f of) (take (length of) cs)))
+
+-- a rule's count and rows, and the cells after them
+abbrev after_own : Kind → ℕ → List ℕ × List ℕ → Option (Rule × List ℕ)
+after_own k wide own =
+    and_then (counted own.1) (λ n.
+    option_map (λ rows. (record { kind = k; slots = own.0; rows = rows_of n.0 wide rows.0 }, rows.1)) (cut_cells (n.0 * wide) n.1))
+
+rule_some : (cs : List ℕ) (wide : ℕ) → 2 < length cs → wide ≡ get_or cs 2 0
+    → rule_begun cs ≡ and_then (kind_of (get_or cs 0 0) (get_or cs 1 0)) (λ k. and_then (cut_cells wide (rest_after 3 cs)) (after_own k wide))
+rule_some [] wide l e = absurd (omega arith)
+rule_some (a ∷ []) wide l e = absurd (omega arith)
+rule_some (a ∷ b ∷ []) wide l e = absurd (omega arith)
+rule_some (a ∷ b ∷ c ∷ cs) wide l e = rw (e, take_rest (a ∷ b ∷ c ∷ cs) 3)
+
+-- where a rule's kind and slots are found
+module _ (cs : List ℕ) {k : Kind} {wide : ℕ} {own after : List ℕ} (long : 2 < length cs) (kind : Some k ≡ kind_of (get_or cs 0 0) (get_or cs 1 0)) (third : wide ≡ get_or cs 2 0) (cut : Some (own, after) ≡ cut_cells wide (rest_after 3 cs)) where
+  rule_from : rule_begun cs ≡ after_own k wide (own, after)
+  rule_from = rule_some cs wide long third ∙ rw (← kind, ← cut)
+
+  pub rule_countless : length after < 1 → None ≡ rule_begun cs
+  rule_countless h = sym (rule_from ∙ rw (counted_none after h))
+
+  module _ {n : ℕ} (h : 0 < length after) (first : n ≡ get_or after 0 0) where
+    pub rule_rowless : None ≡ cut_cells (n * wide) (rest after) → None ≡ rule_begun cs
+    rule_rowless e = sym (rule_from ∙ rw (counted_some after h, ← first, ← e))
+
+    pub rule_whole : {rows left : List ℕ} → Some (rows, left) ≡ cut_cells (n * wide) (rest after) → Some (record { kind = k; slots = own; rows = rows_of n (length own) rows }, left) ≡ rule_begun cs
+    rule_whole e = sym (rule_from ∙ rw (counted_some after h, ← first, ← e, (cut_says wide (rest_after 3 cs) (own, after) (sym cut)).0))
 
 -- n rules that are still to be taken
 module _ (slots : List Slot) (n : ℕ) (cs : List ℕ) (h : 0 < n) where

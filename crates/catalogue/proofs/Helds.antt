@@ -1,6 +1,6 @@
 -- What is held of items that come piece by piece.
-use Rattle.std.proofs.Common.{◌≡◌, ℕ, zero, suc, ◌+◌, ◌-◌, ◌<◌, ◌≤◌, List, [], ◌∷◌, ◌++◌, length, get_or, drop, take, min, Ok, Err, Result, IsOk, OnOk, sym, refl, ap, ◌∙◌, append_assoc, append-nil, arith, length-append, length-take}
-use Rattle.std.proofs.lemmas.List.{take_all, take_min, at_drop_more}
+use Rattle.std.proofs.Common.{◌≡◌, ℕ, zero, suc, ◌+◌, ◌-◌, ◌<◌, ◌≤◌, List, [], ◌∷◌, ◌++◌, length, get_or, set, drop, take, min, Ok, Err, Result, IsOk, OnOk, sym, refl, ap, ◌∙◌, append_assoc, append-nil, arith, length-append, length-take}
+use Rattle.std.proofs.lemmas.List.{take_all, take_min, take_more, take_more_set, at_drop_more}
 use Rattle.std.proofs.Math.Seq.{take-nil}
 use Rattle.catalogue.specs.Storing.{held}
 
@@ -42,6 +42,22 @@ turn_room n old xs i x h is room =
 
 pub turn_full : {T : Type 0} (n : ℕ) (old xs ys : List T) → n ≤ length old → held n old xs ≡ held n old ys
 turn_full n old xs ys h = held_full n old xs h ∙ sym (held_full n old ys h)
+
+-- items laid over places from one on
+pub laid_on : {T : Type 0} (n at : ℕ) (places items : List T) → at ≤ n → length places ≡ n → take at places ++ take (min (at + length items) (length places) - at) items ≡ held n (take at places) items
+unfolding held
+laid_on n at places items h long =
+    let few : n - length (take at places) ≡ n - at = omega (arith, length-take at places) in
+    let m : min (at + length items) (length places) - at ≡ min (n - at) (length items) = omega arith in
+    rw (few, m, take_min)
+
+-- a turn of a loop that lays items over places
+pub laid_turn : {T : Type 0} (old now xs : List T) (at end i : ℕ) (x : T) → end ≡ at + i → end < length now → i < length xs → x ≡ get_or xs i x → take end now ≡ take at old ++ take (end - at) xs → take (end + 1) (set now end x) ≡ take at old ++ take (end + 1 - at) xs
+laid_turn old now xs at end i x e room h is laid =
+    let before : end - at ≡ i = omega arith in
+    let after : end + 1 - at ≡ i + 1 = omega arith in
+    let more : take (i + 1) xs ≡ take i xs ++ x ∷ [] = take_more xs i x h ∙ ap (λ y. take i xs ++ y ∷ []) (sym is) in
+    take_more_set now end x room ∙ ap (λ ys. ys ++ x ∷ []) laid ∙ rw (before, after, more) (append_assoc (take at old) (take i xs) (x ∷ []))
 
 -- texts that come one after another
 pub ruleset joins = (held_then, held_none, append_assoc)

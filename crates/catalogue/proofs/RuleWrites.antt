@@ -4,16 +4,17 @@ use lib.ListN.{length-map}
 use Rattle.std.specs.Option.{option_map}
 use Rattle.std.proofs.lemmas.Bool.{and_parts, leb-true}
 use Rattle.fields.specs.Results.{and_then}
+use Rattle.fields.proofs.Chains.{and_then_case, cond_some}
 use Rattle.catalogue.specs.declared.model.Kind.{Kind}
 use Rattle.catalogue.specs.declared.model.Slot.{Slot}
 use Rattle.catalogue.specs.Catalogues.{Rule, Catalogue}
-use Rattle.catalogue.specs.Cells.{rows_of, rules_of}
+use Rattle.catalogue.specs.Cells.{slots_of, rows_of, rules_of}
 use Rattle.catalogue.specs.Headed.{head_text}
-use Rattle.catalogue.specs.Lawful.{all, offered, row_lawful, rule_lawful}
+use Rattle.catalogue.specs.Lawful.{all, slot_lawful, offered, row_lawful, rule_lawful}
 use Rattle.catalogue.specs.Listed.{slots_in}
 use Rattle.catalogue.specs.Storing.{held}
 use Rattle.catalogue.specs.Writing.{rule_text, rules_text, text_of}
-use Rattle.catalogue.proofs.CellLaws.{rows_count, row_wide, rules_say}
+use Rattle.catalogue.proofs.CellLaws.{slots_say, rows_count, row_wide, rules_say}
 use Rattle.catalogue.proofs.LawfulParts.{rule_parts}
 use Rattle.catalogue.proofs.Helds.{held_then}
 use Rattle.catalogue.proofs.TextPieces.{rule_then_rest, head_then_rules}
@@ -62,3 +63,10 @@ whole_written room old mark n slots cs = go (rules_of n slots cs) refl
         let c : Catalogue = record { mark = mark; slots = slots; rules = rs } in
         let many = (rules_say slots n cs rs is).0 in
         ap Some (held_then room old (head_text mark slots n) (rules_text rs []) ∙ rw (← many) (sym (ap (held room old) (head_then_rules c))))
+
+-- the slots that cells say are lawful
+pub slots_in_lawful : (cs : List ℕ) (ss : List Slot) → Some ss ≡ slots_in cs → all slot_lawful ss ≡ true
+slots_in_lawful cs ss e =
+    and_then_case (slots_of (length cs) cs) _ ss (sym e) (λ p is more.
+    let same : p.0 ≡ ss = let k = (cond_some _ (Some p.0) ss more).1 in cc in
+    rw (← same) (slots_say (length cs) cs p is).1)

@@ -1,5 +1,5 @@
 -- How long the text of a lawful catalogue is, and how many cells a lawful rule has.
-use Rattle.std.proofs.Common.{◌≡◌, ℕ, ◌+◌, ◌*◌, ◌^◌, ◌<◌, ◌≤◌, Bool, true, false, ltb, List, [], ◌∷◌, map, length, codes, decimal, refl, ap, arith, length-append}
+use Rattle.std.proofs.Common.{◌≡◌, ℕ, ◌+◌, ◌*◌, ◌^◌, ◌<◌, ◌≤◌, Bool, true, false, ltb, List, [], ◌∷◌, map, length, codes, decimal, refl, ap, mul-le-mul, arith, length-append}
 use lib.ListN.{length-map}
 use Rattle.std.specs.List.{flat_map, AllByRecursion}
 use Rattle.std.proofs.lemmas.Fmt.{length-decimal-le}
@@ -15,7 +15,7 @@ use Rattle.catalogue.specs.Cells.{slot_cell, rule_cells, cells_of}
 use Rattle.catalogue.specs.Headed.{head_text}
 use Rattle.catalogue.specs.Lawful.{all, slot_lawful, kind_lawful, offered, row_lawful, rule_lawful, lawful}
 use Rattle.catalogue.specs.Writing.{line, number_text, standing_word, kind_words, list_text, slot_text, slots_text, rows_text, rule_text, rules_text, text_of}
-use Rattle.catalogue.proofs.CellLaws.{row_wide}
+use Rattle.catalogue.proofs.CellLaws.{row_wide, rows_length}
 use Rattle.catalogue.proofs.LawfulParts.{all_means, limits_few, row_few}
 use Rattle.catalogue.proofs.TextPieces.{head_then_rules}
 
@@ -165,3 +165,23 @@ text_short c h =
 
 pub text_fits : (c : Catalogue) → lawful c ≡ true → length (cells_of c) ≤ 8192 → length (text_of c) ≤ 65536
 text_fits c h few = omega (arith, text_short c h)
+
+pub rule_cells_few : (slots : List Slot) (r : Rule) → rule_lawful slots r ≡ true → length (rule_cells r) ≤ 1028
+rule_cells_few slots r h =
+    let limits = map (offered slots) r.slots in
+    let narrow : length r.slots ≤ 4 = grind (arith, nat_tests) in
+    let wide : length limits ≤ 4 = omega (arith, length-map r.slots (offered slots)) in
+    let most : length r.rows ≤ 255 = grind (arith, nat_tests) in
+    let each : all (row_lawful limits) r.rows ≡ true = grind (arith, nat_tests) in
+    omega (
+      arith,
+      mul-le-mul most wide,
+      rows_length limits r.rows each,
+      length-append r.slots (length r.rows ∷ flat_map (λ row. row) r.rows),
+    )
+
+pub rule_text_short : (slots : List Slot) (r : Rule) → rule_lawful slots r ≡ true → length slots ≤ 24 → all slot_lawful slots ≡ true → length (rule_text r []) ≤ 5000
+rule_text_short slots r h few offer =
+    let most : length r.rows ≤ 255 = grind (arith, nat_tests) in
+    let short = rule_short slots few offer r [] h in
+    omega (arith, rule_cells_few slots r h)

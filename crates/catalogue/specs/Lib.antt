@@ -7,5 +7,6 @@ pub mod Outcomes
 pub mod Law
 pub mod Listed
 pub mod Headed
+pub mod Rooms
 pub mod Storing
 pub mod Keeping

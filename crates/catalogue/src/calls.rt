@@ -70,7 +70,7 @@ pub fn write(cells: &[u16], text: &mut [u8]) -> Result<usize, Fault>
     ensures after { text.new ≡ laid (write_into (length text.old) cells.now) text.old }
     ensures law { ReadsWhatIsWritten }
 {
-    let mut written = Text::new();
+    let mut written = Text::new(0);
     put_catalogue(&mut written, cells).ok_or(FaultKind::UnlawfulCells.at(0))?;
     let written = written.as_slice();
     let count = written.len();

@@ -32,6 +32,7 @@ pub(crate) fn rise(slots: &[u32]) -> bool
 
 // Is t none of these slots?
 #[tactic(auto, using(crate::proofs::CheckViews::none_holds))]
+#[inline(always)]
 pub(crate) fn stands_apart(kind: Kind, slots: &[u32]) -> bool
     ensures { result ≡ apart kind slots.now }
 {
@@ -51,6 +52,7 @@ fn parts_fit(slots: &Slots, of: &[u32], row: &[u32]) -> bool
 }
 
 // Has the row a part for each of these slots that the slot offers?
+#[inline(always)]
 pub(crate) fn row_fits(slots: &Slots, of: &[u32], row: &[u32]) -> bool
     ensures { result ≡ row_lawful (map (offered (listed slots.now)) of.now) row.now }
 {

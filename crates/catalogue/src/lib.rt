@@ -6,6 +6,7 @@ mod checks;
 mod lines;
 pub mod model;
 mod reading;
+mod room;
 pub mod slots;
 mod storing;
 mod writing;

@@ -55,6 +55,7 @@ fn slot_of(text: &[u8]) -> Option<(u32, bool)>
 }
 
 // A slot's line, its part count within bounds.
+#[inline]
 pub(crate) fn slot_line(reader: &mut Reader) -> Result<Slot, Fault>
     ensures { beside result (place_of reader.new) ≡ slot_line (place_of reader.old) }
 {
@@ -90,6 +91,7 @@ fn kind_of(text: &[u8]) -> Option<Kind>
 }
 
 // The line that begins a rule: its kind, with t a used slot.
+#[inline]
 pub(crate) fn kind_line(reader: &mut Reader, used: u32) -> Result<Kind, Fault>
     ensures { beside result (place_of reader.new) ≡ kind_line used (place_of reader.old) }
 {
@@ -103,6 +105,7 @@ pub(crate) fn kind_line(reader: &mut Reader, used: u32) -> Result<Kind, Fault>
 }
 
 // The line of a rule's slots: used, rising, and without t.
+#[inline]
 pub(crate) fn of_line(reader: &mut Reader, used: u32, kind: Kind) -> Result<Numbers, Fault>
     ensures { beside (mapped_ok values_of result) (place_of reader.new) ≡ of_line used kind (place_of reader.old) }
 {
@@ -122,6 +125,7 @@ pub(crate) fn of_line(reader: &mut Reader, used: u32, kind: Kind) -> Result<Numb
 }
 
 // So many numbers.
+#[inline(always)]
 fn row_of(text: &[u8], wide: usize) -> Option<Numbers>
     ensures { option_map values_of result ≡ row_value wide text.now }
 {
@@ -129,6 +133,7 @@ fn row_of(text: &[u8], wide: usize) -> Option<Numbers>
 }
 
 // A row's line: a part for each of the rule's slots, among those that the slot offers.
+#[inline(always)]
 pub(crate) fn row_line(reader: &mut Reader, slots: &Slots, of: &[u32]) -> Result<Numbers, Fault>
     ensures { beside (mapped_ok values_of result) (place_of reader.new) ≡ row_line (map (offered (listed slots.now)) of.now) (place_of reader.old) }
 {

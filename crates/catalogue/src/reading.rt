@@ -27,6 +27,7 @@ fn slots_lines(reader: &mut Reader, used: u32) -> Result<Slots, Fault>
 }
 
 // The lines of a rule's rows, their cells kept.
+#[inline]
 fn rows_lines<const N: usize>(
     reader: &mut Reader,
     slots: &Slots,
@@ -82,6 +83,7 @@ struct Head {
     rules: u32,
 }
 
+#[inline]
 fn head_lines(reader: &mut Reader) -> Result<Head, Fault>
     ensures few { IfOk result (λ h. h.rules ≤ 64) }
     ensures value { beside (mapped_ok (λ h. (h.mark, listed h.slots, h.rules)) result) (place_of reader.new) ≡ head_lines (place_of reader.old) }

@@ -3,29 +3,17 @@ ghost use Rattle.fields.specs.Values.{values_of};
 ghost use Rattle.catalogue.specs.Cells.{slot_cell};
 ghost use Rattle.catalogue.specs.Listed.{listed};
 ghost use Rattle.catalogue.specs.Keeping.{nothing_kept, kept};
-ghost use Rattle.catalogue.specs.Storing.{held, rule_head, catalogue_head};
+ghost use Rattle.catalogue.specs.Storing.{rule_head, catalogue_head};
 
 use crate::model::Kind;
+use crate::room::Room;
 use crate::slots::Slots;
-use arrayvec::ArrayVec;
 use fields::numbers::Numbers;
-
-// Items, as many as there is room for.
-pub(crate) fn keep<T: Copy, const N: usize>(out: &mut ArrayVec<T, N>, items: &[T])
-    ensures { out.new.items ≡ held N out.old.items items.now }
-{
-    // One by one: many short pieces are kept, and slices copied at once made a long text twice as slow.
-    for item in items {
-        if !out.is_full() {
-            out.push(*item);
-        }
-    }
-}
 
 // The cells of a text: the first N of them, and how many they are.
 #[derive(Drop)]
 pub(crate) struct Kept<const N: usize> {
-    cells: ArrayVec<u32, N>,
+    cells: Room<u32, N>,
     count: usize,
 }
 
@@ -35,7 +23,7 @@ impl<const N: usize> Kept<N> {
         ensures { result ≡ nothing_kept }
     {
         Kept {
-            cells: ArrayVec::new(),
+            cells: Room::new(0),
             count: 0,
         }
     }
@@ -44,7 +32,7 @@ impl<const N: usize> Kept<N> {
     pub(crate) fn extend(&mut self, cells: &[u32])
         ensures { self.new ≡ kept self.old cells.now }
     {
-        keep(&mut self.cells, cells);
+        self.cells.keep(cells);
         self.count = self.count.saturating_add(cells.len());
     }
 

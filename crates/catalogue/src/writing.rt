@@ -9,20 +9,19 @@ ghost use Rattle.catalogue.specs.Writing.{line, standing_word, kind_words, slot_
 
 use crate::cells::{RuleCells, slots_of_cells, take_catalogue, take_rule};
 use crate::model::{Kind, Slot};
+use crate::room::Room;
 use crate::slots::Slots;
-use crate::storing::keep;
-use arrayvec::ArrayVec;
 use itoa::{Buffer, Integer};
 
 // A text, of at most 65,536 bytes.
-pub(crate) type Text = ArrayVec<u8, 65536>;
+pub(crate) type Text = Room<u8, 65536>;
 
 // A number in decimal.
 fn put_number<I: Integer>(out: &mut Text, n: I)
     ensures { out.new.items ≡ held 65536 out.old.items (I.text n) }
 {
     let mut buffer = Buffer::new();
-    keep(out, buffer.format(n).as_bytes());
+    out.keep(buffer.format(n).as_bytes());
 }
 
 // Numbers, one space apart.
@@ -32,7 +31,7 @@ fn put_numbers(out: &mut Text, numbers: &[u16])
     if let Some((first, others)) = numbers.split_first() {
         put_number(out, *first);
         for n in others {
-            keep(out, b" ");
+            out.keep(b" ");
             put_number(out, *n);
         }
     }
@@ -43,9 +42,9 @@ fn put_numbers(out: &mut Text, numbers: &[u16])
 fn put_number_line<I: Integer>(out: &mut Text, start: &[u8], n: I)
     ensures { out.new.items ≡ held 65536 out.old.items (line (start.now ++ I.text n) []) }
 {
-    keep(out, start);
+    out.keep(start);
     put_number(out, n);
-    keep(out, b"\n");
+    out.keep(b"\n");
 }
 
 // A line that ends with numbers.
@@ -53,9 +52,9 @@ fn put_number_line<I: Integer>(out: &mut Text, start: &[u8], n: I)
 fn put_list(out: &mut Text, start: &[u8], numbers: &[u16])
     ensures { out.new.items ≡ held 65536 out.old.items (line (start.now ++ numbers_text numbers.now) []) }
 {
-    keep(out, start);
+    out.keep(start);
     put_numbers(out, numbers);
-    keep(out, b"\n");
+    out.keep(b"\n");
 }
 
 // What ends a slot's line.
@@ -74,9 +73,9 @@ fn standing_end(standard: bool) -> &'static [u8]
 fn put_slot(out: &mut Text, slot: Slot)
     ensures { out.new.items ≡ held 65536 out.old.items (line (slot_text slot) []) }
 {
-    keep(out, b"slot=");
+    out.keep(b"slot=");
     put_number(out, slot.parts);
-    keep(out, standing_end(slot.standard));
+    out.keep(standing_end(slot.standard));
 }
 
 // The lines of slots.
@@ -93,7 +92,7 @@ fn put_kind(out: &mut Text, kind: Kind)
     ensures { out.new.items ≡ held 65536 out.old.items (line (keyed_text (codes "rule") (kind_words kind)) []) }
 {
     match kind {
-        Kind::Goes => keep(out, b"rule=goes\n"),
+        Kind::Goes => out.keep(b"rule=goes\n"),
         Kind::Needs(t) => put_number_line(out, b"rule=needs ", t),
         Kind::Bars(t) => put_number_line(out, b"rule=bars ", t),
     }

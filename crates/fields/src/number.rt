@@ -6,6 +6,7 @@ ghost use Rattle.fields.specs.Numbers.{number_on, number_at, whole_number};
 use crate::natural::Natural;
 
 // The number up to `max` that the digits at the front write, and what follows them.
+#[inline(always)]
 fn digits(text: &[u8], max: u64) -> Option<(u64, &[u8])>
     ensures within { IfSome result (λ x. x.0 ≤ max) }
     ensures value { option_map (λ x. (x.0, x.1.now)) result ≡ number_on max 0 text.now }
@@ -25,6 +26,7 @@ fn digits(text: &[u8], max: u64) -> Option<(u64, &[u8])>
 }
 
 // `number` at 64 bits.
+#[inline(always)]
 fn leading(text: &[u8], max: u64) -> Option<(u64, &[u8])>
     ensures within { IfSome result (λ x. x.0 ≤ max) }
     ensures value { option_map (λ x. (x.0, x.1.now)) result ≡ number_at max text.now }
@@ -38,6 +40,7 @@ fn leading(text: &[u8], max: u64) -> Option<(u64, &[u8])>
 }
 
 // The number at the front, up to `max` and without a leading zero, and what follows it.
+#[inline]
 pub fn number<N: Natural>(text: &[u8], max: N) -> Option<(N, &[u8])>
     ensures within { IfSome result (λ x. N.value x.0 ≤ N.value max) }
     ensures value { option_map (λ x. (N.value x.0, x.1.now)) result ≡ number_at (N.value max) text.now }
@@ -48,6 +51,7 @@ pub fn number<N: Natural>(text: &[u8], max: N) -> Option<(N, &[u8])>
 }
 
 // The number up to `max` that is the whole text.
+#[inline]
 pub fn whole_number<N: Natural>(text: &[u8], max: N) -> Option<N>
     ensures within { IfSome result (λ n. N.value n ≤ N.value max) }
     ensures value { option_map N.value result ≡ whole_number (N.value max) text.now }

@@ -15,6 +15,7 @@ pub fn past_space(text: &[u8]) -> Option<&[u8]>
 }
 
 impl Numbers {
+    #[inline(always)]
     fn none() -> Numbers
         ensures { values_of result ≡ [] }
     {
@@ -24,16 +25,17 @@ impl Numbers {
         }
     }
 
-    // These numbers and one more, or none where four are there.
-    fn with(mut self, n: u32) -> Option<Numbers>
-        ensures { option_map values_of result ≡ (if nat_lt (length (values_of self)) 4 then Some (values_of self ++ n ∷ []) else None) }
+    // One number more, in place: by value, each number would be moved with those before it. None where four are there.
+    #[inline(always)]
+    fn push(&mut self, n: u32) -> Option<()>
+        ensures { option_map (λ _. values_of self.new) result ≡ (if nat_lt (length (values_of self.old)) 4 then Some (values_of self.old ++ n ∷ []) else None) }
     {
         if self.count == 4 {
             return None;
         }
         self.values[self.count] = n;
         self.count += 1;
-        Some(self)
+        Some(())
     }
 
     // One to four numbers up to 99,999, one space apart, and nothing after them.
@@ -45,11 +47,10 @@ impl Numbers {
         let mut rest = text;
         loop {
             let (n, after) = number(rest, 99_999u32)?;
-            let more = numbers.with(n)?;
+            numbers.push(n)?;
             if after.is_empty() {
-                return Some(more);
+                return Some(numbers);
             }
-            numbers = more;
             rest = past_space(after)?;
         }
     }
@@ -58,11 +59,27 @@ impl Numbers {
     pub fn of_cells(cells: &[u16]) -> Option<Numbers>
         ensures { option_map values_of result ≡ (if nat_le (length cells.now) 4 then Some cells.now else None) }
     {
-        let mut numbers = Numbers::none();
-        for cell in cells {
-            numbers = numbers.with(u32::from(*cell))?;
+        // By patterns: a count that lies beside the numbers, one number after another, took a third more time.
+        match *cells {
+            [] => Some(Numbers::none()),
+            [a] => Some(Numbers {
+                values: [u32::from(a), 0, 0, 0],
+                count: 1,
+            }),
+            [a, b] => Some(Numbers {
+                values: [u32::from(a), u32::from(b), 0, 0],
+                count: 2,
+            }),
+            [a, b, c] => Some(Numbers {
+                values: [u32::from(a), u32::from(b), u32::from(c), 0],
+                count: 3,
+            }),
+            [a, b, c, d] => Some(Numbers {
+                values: [u32::from(a), u32::from(b), u32::from(c), u32::from(d)],
+                count: 4,
+            }),
+            _ => None,
         }
-        Some(numbers)
     }
 
     pub fn as_slice(&self) -> &[u32]

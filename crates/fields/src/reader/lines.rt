@@ -22,6 +22,7 @@ impl<'a> Reader<'a> {
 
     // The line that comes next, without its end, and the text after it.
     #[tactic(auto, using(crate::proofs::LineViews::cut_length))]
+    #[inline(always)]
     fn next_line(&self) -> Result<(&'a [u8], &'a [u8]), Fault>
         ensures shorter { IfOk result (λ x. length x.1.now < length (place_of self.now).text) }
         ensures value { mapped_ok (λ x. (x.0.now, position ((place_of self.now).line + 1) x.1.now)) result ≡ next_line (place_of self.now) }
@@ -34,6 +35,7 @@ impl<'a> Reader<'a> {
     }
 
     // What follows the due key and "=" in the line that comes next, and goes past that line.
+    #[inline(always)]
     pub fn value_of(&mut self, key: &[u8]) -> Result<&'a [u8], Fault>
         ensures refused { is_err result ≡ true → place_of self.new ≡ place_of self.old }
         ensures value { beside (mapped_ok (λ x. x.now) result) (place_of self.new) ≡ keyed_line key.now (place_of self.old) }
