@@ -1,5 +1,5 @@
-ghost use Rattle.std.specs.Prelude.{◌≡◌, ℕ, Bool, List, Option};
-ghost use Rattle.std.specs.Option.{option_map};
+ghost use Rattle.std.specs.Prelude.{◌≡◌, ℕ, Bool, List, Option, is_some};
+ghost use Rattle.std.specs.Option.{option_map, unwrap_or};
 ghost use Rattle.kits.specs.Books.{Laws};
 
 use crate::label_box::LabelBox;
@@ -20,6 +20,15 @@ pub trait Book {
     // The box narrowed by a rule, or none where that fails.
     fn narrow(&self, rule: u8, b: &LabelBox) -> Option<LabelBox>
         ensures { option_map (λ c. c.labels) result ≡ narrowed self.now rule b.now.labels };
+
+    // Narrows the box where it stands, and leaves it where that fails. A book may do so without a copy.
+    fn narrow_within(&self, rule: u8, b: &mut LabelBox) -> Option<()>
+        ensures fits { is_some result ≡ is_some (narrowed self.now rule b.old.labels) }
+        ensures after { b.new.labels ≡ unwrap_or (narrowed self.now rule b.old.labels) b.old.labels }
+    {
+        *b = self.narrow(rule, b)?;
+        Some(())
+    }
 
     ghost points: { (b : Self) → Laws (rules b) (allows b) (narrowed b) };
 }

@@ -1,8 +1,8 @@
 -- Where the rules of a catalogue begin, found one after another.
 use Rattle.std.proofs.Common.{◌≡◌, ℕ, ◌+◌, ◌-◌, ◌<◌, ◌≤◌, true, false, eqb, List, [], ◌∷◌, ◌++◌, length, get_or, take, drop, is_some, Some, None, Option, sym, refl, ap, ◌∙◌, subst, ⊎_elim, arith}
 use Rattle.std.specs.Option.{option_map}
-use Rattle.std.proofs.lemmas.List.{get_or_push, get_or_append_left, length-append, take_at, drop_at, drop-drop, drop_more}
-use Rattle.std.proofs.lemmas.Bool.{cases_eq, true≢false}
+use Rattle.std.proofs.lemmas.List.{get_or_push, get_or_append_left, length-append, length-drop, take_at, drop_at, drop-drop, drop_all, drop_more}
+use Rattle.std.proofs.lemmas.Bool.{cases_eq, cases_lt, true≢false}
 use Rattle.fields.proofs.Chains.{mapped_case}
 use Rattle.catalogue.specs.declared.model.Slot.{Slot}
 use Rattle.catalogue.specs.Catalogues.{Rule, Catalogue}
@@ -20,6 +20,15 @@ pub record Placing (cells : List ℕ) (slots : List Slot) (count : ℕ) (rules p
   pub others : (rs : List Rule) → rules_of count slots rules ≡ Some rs → rules_of (count - i) slots left ≡ Some (drop i rs)
   pub placed : (rs : List Rule) → rules_of count slots rules ≡ Some rs → (r : ℕ) → r < i → Begins cells (get_or places r 0) (get_or rs r no_rule)
 
+pub placing_none : (cells : List ℕ) (slots : List Slot) (count : ℕ) (rules places : List ℕ) → Placing cells slots count rules places 0 rules
+placing_none cells slots count rules places =
+    let e : count - 0 ≡ count = omega arith in
+    record {
+      all = rw e refl;
+      others = λ rs h. rw e h;
+      placed = λ rs h r l. absurd (omega arith);
+    }
+
 -- what comes after the first of the last cells is the last of the cells too
 pub last_after : (xs ys front cells : List ℕ) → Last xs cells → length xs ≤ length cells → front ++ ys ≡ xs → Last ys cells × (length ys ≤ length cells)
 last_after xs ys front cells last few e =
@@ -28,6 +37,13 @@ last_after xs ys front cells last few e =
     let k : length cells - length xs + length front ≡ length cells - length ys = omega arith in
     let tail : ys ≡ drop (length front) (drop (length cells - length xs) cells) = sym (drop_at front ys (length front) refl) ∙ ap (drop (length front)) (e ∙ last) in
     (tail ∙ drop-drop (length front) (length cells - length xs) cells ∙ ap (λ (j : ℕ). drop j cells) k, omega arith)
+
+pub last_drop : (n : ℕ) (cells : List ℕ) → Last (drop n cells) cells
+last_drop n cells =
+    ⊎_elim
+    (λ (h : length cells < n). let k : length cells - (length cells - n) ≡ length cells = omega arith in rw (length-drop n cells, k) (drop_all n cells (omega arith) ∙ sym (drop_all (length cells) cells (omega arith))))
+    (λ (h : n ≤ length cells). let k : length cells - (length cells - n) ≡ n = omega arith in rw (length-drop n cells, k) refl)
+    (cases_lt (length cells) n)
 
 -- a lawful rule is taken off the front of its cells
 taken_begins : (slots : List Slot) (cells cs : List ℕ) (x : ℕ) (p : Rule × List ℕ) → rule_of slots cs ≡ Some p → cs ≡ drop x cells → Begins cells x p.0
@@ -116,9 +132,10 @@ module _ (cells : List ℕ) (c : CatalogueCells) (said : catalogue_in c ≡ cata
         go None f = refl
         go (Some rs) f = absurd f
 
-    pub ruled : (places : List ℕ) → PlacesFound cells (rules_of c.count slots c.rules.now) (Some places) → Placed cells places (table_rules cells)
+    pub ruled : (places : List ℕ) → PlacesFound cells (rules_of c.count slots c.rules.now) (Some places)
+        → (c.count ≡ length (table_rules cells)) × Placed cells places (table_rules cells)
     ruled places f = go (rules_of c.count slots c.rules.now) refl f
       where
-        go : (o : Option (List Rule)) → rules_of c.count slots c.rules.now ≡ o → PlacesFound cells o (Some places) → Placed cells places (table_rules cells)
+        go : (o : Option (List Rule)) → rules_of c.count slots c.rules.now ≡ o → PlacesFound cells o (Some places) → (c.count ≡ length (table_rules cells)) × Placed cells places (table_rules cells)
         go None e f = absurd f
-        go (Some rs) e f = rw (rules_said, e) f
+        go (Some rs) e f = rw (rules_said, e) (sym (rules_say slots c.count c.rules.now rs e).0, f)

@@ -1,10 +1,11 @@
 -- The rows of a rule, as the code goes over them.
-use Rattle.std.proofs.Common.{◌≡◌, ℕ, zero, suc, ◌*◌, ◌^◌, ◌<◌, ◌≤◌, ◌&&◌, List, [], ◌∷◌, ◌++◌, length, get_or, take, drop, Decides, Some, Option, cond, sym, ap, ◌∙◌, refl, subst, suc-mul, arith, rules}
+use Rattle.std.proofs.Common.{◌≡◌, ℕ, zero, suc, ◌+◌, ◌*◌, ◌^◌, ◌<◌, ◌≤◌, ◌&&◌, List, [], ◌∷◌, ◌++◌, length, get_or, take, drop, Decides, Some, Option, cond, sym, ap, ◌∙◌, refl, subst, suc-mul, arith, rules}
 use denote.Ref.{Bor}
 use lib.Bits.{bit_or}
 use Rattle.std.proofs.lemmas.Iterator.{YieldsList}
 use Rattle.std.proofs.lemmas.Iterator.Consumers.{YieldsList-turn}
 use Rattle.std.proofs.lemmas.List.Sums.{fold_more}
+use Rattle.std.proofs.lemmas.Nat.{mul-le}
 use Rattle.std.proofs.lemmas.List.{take_at, drop_at, length-drop, get_or_default, length_push}
 use Rattle.std.proofs.lemmas.Slice.Eq.{compares_Decides}
 use Rattle.std.specs.declared.iter.Take.{Take}
@@ -18,6 +19,10 @@ use Rattle.kits.specs.Boxes.{holds}
 use Rattle.kits.specs.Labels.{has_member}
 use Rattle.rule_books.specs.Narrowing.{Sized, supports}
 use Rattle.rule_books.specs.Rules.{same}
+
+-- a row ends within the rows
+pub row_end : (j count wide : ℕ) → j < count → j * wide + wide ≤ count * wide
+row_end j count wide h = omega (arith, mul-le (suc j) wide count wide h (omega arith), suc-mul j wide)
 
 pub same_decides : (xs ys : List ℕ) → Decides (same xs ys) (xs ≡ ys)
 same_decides = compares_Decides same (search rules)

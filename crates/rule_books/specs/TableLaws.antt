@@ -1,8 +1,8 @@
 -- The rules that cells say, and the rule at a place.
-use Rattle.std.specs.Prelude.{◌≡◌, ℕ, zero, suc, ◌<◌, ◌≤◌, Bool, true, List, [], ◌∷◌, ◌++◌, length, drop, Some, None, Option, slice_index_or, refl}
+use Rattle.std.specs.Prelude.{◌≡◌, ℕ, zero, suc, ◌+◌, ◌-◌, ◌<◌, ◌≤◌, Bool, true, List, [], ◌∷◌, ◌++◌, length, take, drop, Some, None, Option, slice_index_or, slice_range, refl}
 use Rattle.std.proofs.Common.{sym, ap, ◌∙◌, le_of_suc-le-suc, arith}
 use Rattle.std.proofs.Math.Path.{fun_ext}
-use Rattle.std.proofs.lemmas.List.{take-append-drop}
+use Rattle.std.proofs.lemmas.List.{take-append-drop, drop-take, length-take, length-drop}
 use Rattle.std.proofs.lemmas.Bool.{and_parts, leb-true, lt-ltb}
 use Rattle.catalogue.specs.declared.model.Slot.{Slot}
 use Rattle.catalogue.specs.Catalogues.{Rule, Catalogue}
@@ -66,3 +66,25 @@ module _ (slots : List Slot) (cells : List ℕ) (place : ℕ) (rule : Rule) (law
       let whole : rule_cells rule ++ drop n (drop place cells) ≡ drop place cells =
       ap (λ (xs : List ℕ). xs ++ drop n (drop place cells)) (sym begins) ∙ take-append-drop n (drop place cells) in
       ap rule_begun (sym whole) ∙ rule_begins slots rule (drop n (drop place cells)) lawful
+
+-- the same of a rule at a place of the first cells, which are the front of an array
+module _ (slots : List Slot) (cells : List ℕ) (long place : ℕ) (rule : Rule) (lawful : rule_lawful slots rule ≡ true) (begins : Begins (take long cells) place rule) where
+  abbrev own : ℕ
+  own = length (rule_cells rule)
+
+  long_enough : own ≤ length (drop place (take long cells))
+  long_enough = omega (arith, length-take own (drop place (take long cells)), ap length begins)
+
+  -- the place is within the cells
+  pub place_within : place ≤ long
+  place_within = omega (arith, long_enough, length-drop place (take long cells), length-take long cells, some)
+    where
+      some : 3 ≤ length (rule_cells rule)
+      some = omega arith
+
+  -- the rule is read in the range from its place
+  pub rule_in_range : rule_begun (slice_range cells place long) ≡ Some (rule, drop own (drop place (take long cells)))
+  rule_in_range =
+      let e : place + (long - place) ≡ long = omega (arith, place_within) in
+      let part : take (long - place) (drop place cells) ≡ drop place (take long cells) = sym (drop-take place (long - place) cells) ∙ ap (λ (k : ℕ). drop place (take k cells)) e in
+      ap rule_begun part ∙ rule_at slots (take long cells) place rule lawful begins

@@ -1,5 +1,5 @@
-ghost use Rattle.std.specs.Prelude.{◌≡◌, ◌<◌};
-ghost use Rattle.std.specs.Option.{option_map};
+ghost use Rattle.std.specs.Prelude.{◌≡◌, ◌<◌, is_some};
+ghost use Rattle.std.specs.Option.{unwrap_or};
 ghost use Rattle.catalogue.specs.Listed.{rule_in};
 ghost use Rattle.rule_books.specs.Exact.{some_in, exact};
 ghost use Rattle.rule_books.specs.Narrowing.{beside_test};
@@ -25,15 +25,19 @@ const FILLED: u16 = 0xfffe;
 // The number that leaves it empty.
 const EMPTY: u16 = 1;
 
-// The slots of a rule narrowed to the parts that are wanted.
-fn narrow_slots<W: Wants>(rule: TableRule, b: &LabelBox) -> Option<LabelBox>
-    ensures { option_map (λ c. c.labels) result ≡ exact (λ f. W.passes (rule_in rule.entry.cells).rows (at_slots rule.entry.cells.slots.now f)) b.now.labels }
+// Narrows the slots of a rule to the parts that are wanted.
+#[inline(always)]
+fn narrow_slots<W: Wants>(rule: TableRule, b: &mut LabelBox) -> Option<()>
+    ensures fits { is_some result ≡ is_some (exact (λ f. W.passes (rule_in rule.entry.cells).rows (at_slots rule.entry.cells.slots.now f)) b.old.labels) }
+    ensures after { b.new.labels ≡ unwrap_or (exact (λ f. W.passes (rule_in rule.entry.cells).rows (at_slots rule.entry.cells.slots.now f)) b.old.labels) b.old.labels }
 {
     let labelled = Labelled::of(rule, b).narrowed::<W>()?;
-    Some(labelled.put(b))
+    labelled.put(b);
+    Some(())
 }
 
 // Is some choice for the slots of a rule no row, or one of them empty?
+#[inline(always)]
 fn can_spare(rule: TableRule, b: &LabelBox) -> bool
     ensures { result ≡ some_in (spares (rule_in rule.entry.cells).rows) (at_slots rule.entry.cells.slots.now b.now.labels) }
 {
@@ -43,9 +47,11 @@ fn can_spare(rule: TableRule, b: &LabelBox) -> bool
 }
 
 // Narrows by a rule that wants slot t to have a number of the mask where the parts are a row.
-fn narrow_beside(t: u32, mask: u16, rule: TableRule, b: &LabelBox) -> Option<LabelBox>
+#[inline(always)]
+fn narrow_beside(t: u32, mask: u16, rule: TableRule, b: &mut LabelBox) -> Option<()>
     requires { (t < 24) × (Aside t rule.cells.slots.now) }
-    ensures { option_map (λ c. c.labels) result ≡ exact (beside_test t mask (rule_in rule.entry.cells)) b.now.labels }
+    ensures fits { is_some result ≡ is_some (exact (beside_test t mask (rule_in rule.entry.cells)) b.old.labels) }
+    ensures after { b.new.labels ≡ unwrap_or (exact (beside_test t mask (rule_in rule.entry.cells)) b.old.labels) b.old.labels }
 {
     let slot = slot_number(t);
     let label = b.label(slot);
@@ -53,16 +59,17 @@ fn narrow_beside(t: u32, mask: u16, rule: TableRule, b: &LabelBox) -> Option<Lab
         return narrow_slots::<Spares>(rule, b);
     };
     if met == label || can_spare(rule, b) {
-        return Some(*b);
+        return Some(());
     }
-    let mut narrowed = *b;
-    narrowed.put(slot, met);
-    Some(narrowed)
+    b.put(slot, met);
+    Some(())
 }
 
-// The box narrowed by a rule, or none where that fails.
-pub(crate) fn narrow_rule(rule: TableRule, b: &LabelBox) -> Option<LabelBox>
-    ensures { option_map (λ c. c.labels) result ≡ exact (rule_allows (rule_in rule.entry.cells)) b.now.labels }
+// Narrows the box by a rule, and leaves it where that fails.
+#[inline(always)]
+pub(crate) fn narrow_rule(rule: TableRule, b: &mut LabelBox) -> Option<()>
+    ensures fits { is_some result ≡ is_some (exact (rule_allows (rule_in rule.entry.cells)) b.old.labels) }
+    ensures after { b.new.labels ≡ unwrap_or (exact (rule_allows (rule_in rule.entry.cells)) b.old.labels) b.old.labels }
 {
     match rule.cells.kind {
         Kind::Goes => narrow_slots::<Goes>(rule, b),

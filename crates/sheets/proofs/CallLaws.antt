@@ -60,7 +60,7 @@ module _ (t : Setting) where
     searching_same = ap is_some k.search ∙ open_some h (granted h)
 
     idle : (rest : Option Refusal) → None ≡ unless_searching (searching h) rest → (granted h ≡ None) × (s.search ≡ None)
-    idle rest w = let n = no_budget (granted h) (unless_none (searching h) rest w) in (n, k.search ∙ ap (open_search t h) n)
+    idle rest w = let n = no_budget (granted h) (unless_none (searching h) rest w).0 in (n, k.search ∙ ap (open_search t h) n)
 
     -- a call that is refused or done: what a done one leaves is to be shown
     unless_refused_has : {A : Type 0} (c : Call) (asked due : Option Refusal) (a : A) (new : Contents) → asked ≡ due → ((x : Answer) → x ≡ answered due Done → Right t h c x)

@@ -1,14 +1,19 @@
 -- What follows where a call is not refused.
-use Rattle.std.proofs.Common.{◌≡◌, Bool, true, false, Some, None, Option, sym, refl, ap, ◌∙◌, arith}
+use Rattle.std.proofs.Common.{◌≡◌, ℕ, Bool, true, false, Some, None, Option, sym, refl, ap, ◌∙◌, arith}
 use Rattle.std.proofs.lemmas.Bool.Decides.{nat_tests}
 use Rattle.std.proofs.lemmas.Bool.{true≢false}
 use Rattle.sheets.specs.declared.refusal.Refusal.{Refusal}
-use Rattle.sheets.specs.Refusals.{unless_searching, enter_refusal, rejoin_refusal, fix_refusal}
+use Rattle.sheets.specs.Refusals.{ask, unless_searching, enter_refusal, rejoin_refusal, fix_refusal}
 use Rattle.sheets.specs.Histories.{Answer, accepted}
 use Rattle.sheets.specs.Law.{answered}
 
--- a call that asks for no open search, and is not refused, found none
-pub unless_none : (b : Bool) (rest : Option Refusal) → None ≡ unless_searching b rest → b ≡ false
+-- a question without a refusal was answered "yes"
+pub ask_none : (b : Bool) (e : Refusal) (rest : Option Refusal) → None ≡ ask b e rest → (b ≡ true) × (None ≡ rest)
+ask_none true e rest k = (refl, k)
+ask_none false e rest k = let z : ◌≡◌ {A = ℕ} 0 1 = cc in absurd (omega arith)
+
+-- a call that asks for no open search, and is not refused, found none, nor was it refused by what it asked after that
+pub unless_none : (b : Bool) (rest : Option Refusal) → None ≡ unless_searching b rest → (b ≡ false) × (None ≡ rest)
 unless_none b rest k = grind (arith, nat_tests)
 
 -- an entered rule is not gone

@@ -54,8 +54,9 @@ impl Wants for Spares {
             return label;
         }
         let mut found = label & 1;
+        let mut alone = *labelled;
         for v in 1..16u16 {
-            if has(label, v) && labelled.alone(place, v).some_no_row() {
+            if has(label, v) && alone.spares_alone(place, v) {
                 found |= 1 << v;
             }
         }
@@ -65,6 +66,7 @@ impl Wants for Spares {
 
 impl<'a> Labelled<'a> {
     // Narrowed to the wanted parts, or none where no choice of parts passes.
+    #[inline(always)]
     pub(crate) fn narrowed<W: Wants>(&self) -> Option<Labelled<'a>>
         ensures rule { IfSome result (λ x. x.rule ≡ self.now.rule) }
         ensures labels { option_map (λ x. listed x.labels) result ≡ exact (W.passes (rule_in self.now.rule.cells).rows) (listed self.now.labels) }

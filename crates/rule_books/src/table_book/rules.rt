@@ -15,6 +15,7 @@ use kits::label_box::LabelBox;
 
 impl TableBook {
     // The rule of a number, read at its place.
+    #[inline(always)]
     fn rule(&self, number: u8) -> TableRule<'_>
         requires { number < length (listed self.now.places) }
         ensures { rule_in result.cells ≡ slice_index_or (book_rules self.now) number no_rule }
@@ -39,10 +40,17 @@ impl Book for TableBook {
     }
 
     fn narrow(&self, rule: u8, b: &LabelBox) -> Option<LabelBox> {
+        let mut narrowed = *b;
+        self.narrow_within(rule, &mut narrowed)?;
+        Some(narrowed)
+    }
+
+    #[inline(always)]
+    fn narrow_within(&self, rule: u8, b: &mut LabelBox) -> Option<()> {
         if rule < self.count() {
             narrow_rule(self.rule(rule), b)
         } else {
-            Some(*b)
+            Some(())
         }
     }
 }

@@ -14,7 +14,7 @@ pub(crate) fn narrow_by_all<B: Book>(book: &B, rules: RuleSet, b: LabelBox) -> O
     let mut narrowed = b;
     let mut left = rules;
     while let Some(rule) = left.pop_lowest() {
-        narrowed = book.narrow(rule, &narrowed)?;
+        book.narrow_within(rule, &mut narrowed)?;
     }
     Some(narrowed)
 }

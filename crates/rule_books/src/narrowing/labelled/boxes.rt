@@ -1,4 +1,4 @@
-ghost use Rattle.std.specs.Prelude.{◌≡◌, ◌<◌, ◌^◌, length, slice_set};
+ghost use Rattle.std.specs.Prelude.{◌≡◌, ◌<◌};
 ghost use Rattle.rule_books.specs.Listed.{listed};
 ghost use Rattle.rule_books.specs.Rules.{at_slots};
 ghost use Rattle.rule_books.specs.Scope.{put_at};
@@ -19,6 +19,7 @@ fn label_of(bits: u16) -> Label
 
 impl<'a> Labelled<'a> {
     // The rule with the labels that its slots have in the box.
+    #[inline(always)]
     pub(crate) fn of(rule: TableRule<'a>, b: &LabelBox) -> Labelled<'a>
         ensures rule { result.rule ≡ rule.entry }
         ensures labels { listed result.labels ≡ at_slots rule.entry.cells.slots.now b.now.labels }
@@ -30,25 +31,13 @@ impl<'a> Labelled<'a> {
         Labelled { rule, labels }
     }
 
-    // The box with these labels in the slots of the rule.
-    pub(crate) fn put(&self, b: &LabelBox) -> LabelBox
-        ensures { result.labels ≡ put_at self.now.rule.cells.slots.now (listed self.now.labels) b.now.labels }
+    // Puts these labels into the slots of the rule.
+    #[inline(always)]
+    pub(crate) fn put(&self, b: &mut LabelBox)
+        ensures { b.new.labels ≡ put_at self.now.rule.cells.slots.now (listed self.now.labels) b.old.labels }
     {
-        let mut out = *b;
         for (slot, bits) in self.rule.cells.slots.iter().zip(self.labels.as_slice()) {
-            out.put(slot_number(u32::from(*slot)), label_of(*bits));
+            b.put(slot_number(u32::from(*slot)), label_of(*bits));
         }
-        out
-    }
-
-    // The same, with a number alone in the label at a place.
-    pub(crate) fn alone(&self, place: usize, number: u16) -> Labelled<'a>
-        requires { (place < length (listed self.now.labels)) × (number < 16) }
-        ensures rule { result.rule ≡ self.now.rule }
-        ensures labels { listed result.labels ≡ slice_set (listed self.now.labels) place (2 ^ number) }
-    {
-        let mut alone = *self;
-        alone.labels.set(place, 1 << number);
-        alone
     }
 }

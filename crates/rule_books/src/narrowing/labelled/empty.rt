@@ -7,6 +7,7 @@ use crate::narrowing::members::has;
 
 impl Labelled<'_> {
     // Can a slot be empty, other than the one at the place?
+    #[inline(always)]
     pub(crate) fn other_empty(&self, place: usize) -> bool
         ensures { result ≡ other_empty (listed self.now.labels) place }
     {
@@ -18,6 +19,7 @@ impl Labelled<'_> {
     }
 
     // Can some slot only be empty?
+    #[inline(always)]
     pub(crate) fn only_empty(&self) -> bool
         ensures { result ≡ only_empty (listed self.now.labels) }
     {

@@ -20,5 +20,5 @@ returns-in_err-places c =
 pub invariant_of-result : goal.invariant_of-result
 invariant_of-result c =
     let cells = c.args.cells.now in
-    let t = ruled cells c.in_ok-catalogue.catalogue c.in_ok-catalogue.ensures.value (slots_listed c.in_ok-slots.slots) c.in_ok-slots.ensures _ c.in_ok-places.ensures in
+    let t = (ruled cells c.in_ok-catalogue.catalogue c.in_ok-catalogue.ensures.value (slots_listed c.in_ok-slots.slots) c.in_ok-slots.ensures _ c.in_ok-places.ensures).1 in
     record { placed = subst (λ (xs : List ℕ). Placed xs (listed c.in_ok-places.places) (table_rules xs)) (sym c.of.ensures) t }

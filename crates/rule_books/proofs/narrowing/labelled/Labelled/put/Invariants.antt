@@ -5,4 +5,4 @@ use Rattle.rule_books.proofs.narrowing.labelled.Labelled.put.Given as goal
 
 abbrev pub invariant-loop-slot : goal.invariant-loop-slot
 invariant-loop-slot l =
-    put_at (drop (length l.yielded) l.self.rule.cells.slots.now) (drop (length l.yielded) (listed l.self.labels)) l.out.labels ≡ put_at l.self.rule.cells.slots.now (listed l.self.labels) l.b.labels
+    put_at (drop (length l.yielded) l.self.rule.cells.slots.now) (drop (length l.yielded) (listed l.self.labels)) l.b.labels ≡ put_at l.self.rule.cells.slots.now (listed l.self.labels) l.initial.b.labels
