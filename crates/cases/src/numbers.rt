@@ -1,23 +1,27 @@
 ghost use Rattle.std.specs.Prelude.{◌≡◌, ◌++◌, replicate, IfOk, OnOk};
-ghost use Rattle.cases.specs.Numbers.{value, word_numbers, SaysNumbers};
+ghost use Rattle.cases.specs.Numbers.{word_numbers, SaysNumbers};
 
-use std::alloc::Global;
+use std::alloc::{AllocFailed, Global};
+use std::num::ParseIntError;
 
 // How often a number comes, and the number.
-fn times_and_number(word: &str) -> (&str, &str)
-    ensures { word_numbers word.now ≡ replicate (value result.0.now) (value result.1.now) }
+fn times_and_number(word: &str) -> Result<(u16, u16), ParseIntError>
+    ensures { IfOk result (λ r. word_numbers word.now ≡ replicate r.0 r.1) }
 {
-    word.split_once('*').unwrap_or(("1", word))
+    let Some((times, number)) = word.split_once('*') else {
+        return Ok((1, word.parse::<u16>()?));
+    };
+    let number = number.parse::<u16>()?;
+    Ok((times.parse::<u16>()?, number))
 }
 
-// The numbers of one more word.
-fn push_word(numbers: &mut Vec<u16>, word: &str) -> anyhow::Result<()>
-    ensures { OnOk result (numbers.new.items ≡ numbers.old.items ++ word_numbers word.now) }
+// The number once more, so many times: one by one, since `resize` and `extend` fill all the room that is left.
+fn push_times(numbers: &mut Vec<u16>, times: u16, number: u16) -> Result<(), AllocFailed<u16>>
+    ensures { OnOk result (numbers.new.items ≡ numbers.old.items ++ replicate times number) }
 {
-    let (times, number) = times_and_number(word);
-    let number = number.parse::<u16>()?;
-    let longer = numbers.len() + usize::from(times.parse::<u16>()?);
-    numbers.resize(longer, number)?;
+    for _ in 0..times {
+        numbers.push(number)?;
+    }
     Ok(())
 }
 
@@ -27,7 +31,8 @@ pub fn parse_numbers(heap: Global, text: &str) -> anyhow::Result<Vec<u16>>
 {
     let mut numbers = Vec::new(heap);
     for word in text.split_whitespace() {
-        push_word(&mut numbers, word)?;
+        let (times, number) = times_and_number(word)?;
+        push_times(&mut numbers, times, number)?;
     }
     Ok(numbers)
 }

@@ -1,7 +1,7 @@
 -- The checks on lists that slice patterns take apart.
-use Rattle.std.proofs.Common.{◌≡◌, ℕ, ◌<◌, Bool, true, false, not, ◌&&◌, ◌||◌, ltb, leb, List, [], ◌∷◌, map, length, get_or, refl, ap, ◌+◌, zero, suc, arith}
+use Rattle.std.proofs.Common.{◌≡◌, ℕ, ◌<◌, Bool, true, false, ◌&&◌, ltb, leb, List, [], ◌∷◌, map, length, get_or, refl, ap, ◌+◌, zero, suc, arith}
 use Rattle.std.specs.List.{IsAllAdjacentAnswer, zip}
-use Rattle.catalogue.specs.Lawful.{all, any, rising_after, rising, row_lawful}
+use Rattle.catalogue.specs.Lawful.{all, rising_after, rising, row_lawful}
 
 -- each number is below the next
 rises_from : (x : ℕ) (xs : List ℕ) → ((k : ℕ) → k < length xs → true ≡ ltb (get_or (x ∷ xs) k 0) (get_or (x ∷ xs) (k + 1) 0)) → true ≡ rising_after x xs
@@ -20,15 +20,6 @@ rises [] true h = refl
 rises [] false h = absurd (omega (arith, h.1))
 rises (x ∷ xs) true h = rises_from x xs (λ k l. h k 0 (omega arith))
 rises (x ∷ xs) false h = falls_from x xs h.0 (omega (arith, h.1)) (h.2 0)
-
--- a test that holds of no element
-pub none_holds : {X : Type 0} (p : X → Bool) (xs : List X) → not (any p xs) ≡ all (λ x. not (p x)) xs
-none_holds p [] = refl
-none_holds p (x ∷ xs) = go (p x) (none_holds p xs)
-  where
-    go : (b : Bool) → not (any p xs) ≡ all (λ x. not (p x)) xs → not (b || any p xs) ≡ (not b && all (λ x. not (p x)) xs)
-    go true e = refl
-    go false e = e
 
 -- a row and the slots that it fills, side by side
 pub row_beside : (f : ℕ → ℕ) (of row : List ℕ) → length of ≡ length row → row_lawful (map f of) row ≡ all (λ p. leb 1 p.1 && leb p.1 (f p.0)) (zip of row)

@@ -1,6 +1,6 @@
 -- What is held of items that come piece by piece.
-use Rattle.std.proofs.Common.{◌≡◌, ℕ, zero, suc, ◌+◌, ◌-◌, ◌<◌, ◌≤◌, List, [], ◌∷◌, ◌++◌, length, get_or, set, drop, take, min, Ok, Err, Result, IsOk, OnOk, sym, refl, ap, ◌∙◌, append_assoc, append-nil, arith, length-append, length-take}
-use Rattle.std.proofs.lemmas.List.{take_all, take_min, take_more, take_more_set, at_drop_more}
+use Rattle.std.proofs.Common.{◌≡◌, ℕ, zero, suc, ◌+◌, ◌-◌, ◌<◌, ◌≤◌, List, [], ◌∷◌, ◌++◌, length, get_or, set, take, min, sym, ap, ◌∙◌, append_assoc, append-nil, arith, length-append, length-take}
+use Rattle.std.proofs.lemmas.List.{take_all, take_min, take_more, take_more_set}
 use Rattle.std.proofs.Math.Seq.{take-nil}
 use Rattle.catalogue.specs.Storing.{held}
 
@@ -26,22 +26,6 @@ held_then n old xs ys =
 pub held_fits : {T : Type 0} (n : ℕ) (old xs : List T) → length old + length xs ≤ n → held n old xs ≡ old ++ xs
 unfolding held
 held_fits n old xs h = ap (λ ys. old ++ ys) (take_all _ xs (omega arith))
-
--- where there is none
-pub held_full : {T : Type 0} (n : ℕ) (old xs : List T) → n ≤ length old → held n old xs ≡ old
-unfolding held
-held_full n old xs h = let e : n - length old ≡ 0 = omega arith in rw e (append-nil old)
-
--- a turn of a loop that goes over the items
-pub turn_room : {T : Type 0} (n : ℕ) (old xs : List T) (i : ℕ) (x : T) → i < length xs → x ≡ get_or xs i x → length old < n → held n (old ++ x ∷ []) (drop (i + 1) xs) ≡ held n old (drop i xs)
-turn_room n old xs i x h is room =
-    ap (λ ys. held n ys (drop (i + 1) xs)) (sym (held_fits n old (x ∷ []) (omega arith)))
-    ∙ held_then n old (x ∷ []) (drop (i + 1) xs)
-    ∙ ap (λ y. held n old (y ∷ drop (i + 1) xs)) is
-    ∙ sym (at_drop_more (held n old) xs i x h)
-
-pub turn_full : {T : Type 0} (n : ℕ) (old xs ys : List T) → n ≤ length old → held n old xs ≡ held n old ys
-turn_full n old xs ys h = held_full n old xs h ∙ sym (held_full n old ys h)
 
 -- items laid over places from one on
 pub laid_on : {T : Type 0} (n at : ℕ) (places items : List T) → at ≤ n → length places ≡ n → take at places ++ take (min (at + length items) (length places) - at) items ≡ held n (take at places) items

@@ -30,15 +30,20 @@ pub(crate) fn rise(slots: &[u32]) -> bool
     slots.is_sorted_by(|a, b| a < b)
 }
 
+fn lacks(slots: &[u32], t: u32) -> bool
+    ensures { result ≡ all (λ s. not (s == t)) slots.now }
+{
+    slots.iter().all(|s| *s != t)
+}
+
 // Is t none of these slots?
-#[tactic(auto, using(crate::proofs::CheckViews::none_holds))]
 #[inline(always)]
 pub(crate) fn stands_apart(kind: Kind, slots: &[u32]) -> bool
     ensures { result ≡ apart kind slots.now }
 {
     match kind {
         Kind::Goes => true,
-        Kind::Needs(t) | Kind::Bars(t) => !slots.contains(&t),
+        Kind::Needs(t) | Kind::Bars(t) => lacks(slots, t),
     }
 }
 

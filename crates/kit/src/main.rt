@@ -1,6 +1,6 @@
 #![tactic(auto)]
 
-ghost use Rattle.std.specs.Prelude.{◌≤◌, length, IfOk};
+ghost use Rattle.std.specs.Prelude.{◌≡◌, ◌≤◌, length, take, IfOk, IfSome};
 
 use anyhow::Context;
 use catalogue::{read, write};
@@ -15,9 +15,10 @@ const TEXT_ROOM: usize = 65_537;
 
 const CELL_ROOM: usize = 8192;
 
-// Reads until the source ends or the buffer is full, and answers how many bytes came.
+// Reads until the source ends or the buffer is full, and answers how many bytes came: where the bytes of the source are known, the first that fit.
 fn fill<R: Read>(from: &mut R, buffer: &mut [u8]) -> io::Result<usize>
-    ensures { IfOk result (λ n. n ≤ length buffer.old) }
+    ensures fits { IfOk result (λ n. n ≤ length buffer.old) }
+    ensures came { IfOk result (λ n. IfSome (R.remaining from.old) (λ bytes. take n buffer.new ≡ take (length buffer.old) bytes)) }
 {
     let mut n = 0;
     while n < buffer.len() {

@@ -23,6 +23,6 @@ impl Labelled<'_> {
     pub(crate) fn only_empty(&self) -> bool
         ensures { result ≡ only_empty (listed self.now.labels) }
     {
-        self.labels.as_slice().contains(&1)
+        self.labels.as_slice().iter().any(|label| *label == 1)
     }
 }
