@@ -1,12 +1,13 @@
 -- The rows of a rule, as the code goes over them.
-use Rattle.std.proofs.Common.{◌≡◌, ℕ, zero, suc, ◌+◌, ◌*◌, ◌^◌, ◌<◌, ◌≤◌, ◌&&◌, List, [], ◌∷◌, ◌++◌, length, get_or, take, drop, Decides, Some, Option, cond, sym, ap, ◌∙◌, refl, subst, suc-mul, arith, rules}
+use Rattle.std.proofs.Common.{◌≡◌, ℕ, zero, suc, ◌+◌, ◌*◌, ◌/◌, ◌%◌, ◌^◌, ◌<◌, ◌≤◌, true, false, ◌&&◌, List, [], ◌∷◌, ◌++◌, length, get_or, take, drop, Decides, Some, Option, cond, sym, ap, ◌∙◌, refl, subst, suc-mul, pow-suc, ⊎_elim, arith, rules}
 use denote.Ref.{Bor}
-use lib.Bits.{bit_or}
+use lib.Bits.{bit_or, or_step, or_zero_r}
 use Rattle.std.proofs.lemmas.Iterator.{YieldsList}
 use Rattle.std.proofs.lemmas.Iterator.Consumers.{YieldsList-turn}
-use Rattle.std.proofs.lemmas.List.Sums.{fold_more}
+use Rattle.std.proofs.lemmas.Bool.{cases_Bool}
+use Rattle.std.proofs.lemmas.List.Sums.{fold_more, fold-append}
 use Rattle.std.proofs.lemmas.Nat.{mul-le}
-use Rattle.std.proofs.lemmas.List.{take_at, drop_at, length-drop, get_or_default, length_push}
+use Rattle.std.proofs.lemmas.List.{take_at, drop_at, take-append-drop, length-drop, get_or_default, length_push}
 use Rattle.std.proofs.lemmas.Slice.Eq.{compares_Decides}
 use Rattle.std.specs.declared.iter.Take.{Take}
 use Rattle.std.specs.declared.slice.ChunksExact.{ChunksExact}
@@ -16,7 +17,9 @@ use Rattle.std.specs.Slice.Iter.{chunks_exact_rest, chunks_exact_size, chunks_ex
 use Rattle.std.specs.List.{list_all, zip}
 use Rattle.catalogue.specs.Cells.{rows_of}
 use Rattle.kits.specs.Boxes.{holds}
-use Rattle.kits.specs.Labels.{has_member}
+use Rattle.kits.specs.Labels.{Has, has_member}
+use Rattle.kits.proofs.BoxLaws.{in_at}
+use Rattle.kits.proofs.HalfLaws.{held}
 use Rattle.rule_books.specs.Narrowing.{Sized, supports}
 use Rattle.rule_books.specs.Rules.{same}
 
@@ -70,3 +73,29 @@ pub supports_more : (labels : List ℕ) (place start : ℕ) (rows : List (List �
     → seen ≡ supports labels place start (take (length xs) rows) → next ≡ cond (holds labels x.now) (bit_or seen (2 ^ get_or x.now place 0)) seen
     → next ≡ supports labels place start (take (length (xs ++ x ∷ [])) rows)
 supports_more labels place start rows xs x seen next h e s n = rw (n, e, s, length_push) (sym (fold_more _ start rows (length xs) [] h))
+
+-- a number comes in once
+or_has : (v a : ℕ) → Has a v → bit_or a (2 ^ v) ≡ a
+or_has zero a h = omega (arith, or_step a (2 ^ zero), or_zero_r (a / 2), h)
+or_has (suc v) a h =
+    let d : 2 ^ suc v / 2 ≡ 2 ^ v = omega (arith, pow-suc 2 v) in
+    let m : 2 ^ suc v % 2 ≡ 0 = omega (arith, pow-suc 2 v) in
+    omega (arith, rw (d, m, or_has v (a / 2) h) at (or_step a (2 ^ suc v)))
+
+-- a row that the labels hold adds nothing to the whole label
+supports_full : (labels : List ℕ) (place : ℕ) (rows : List (List ℕ)) → place < length labels → supports labels place (get_or labels place 0) rows ≡ get_or labels place 0
+supports_full labels place [] h = refl
+supports_full labels place (r ∷ rows) h =
+    ⊎_elim
+    (λ (e : holds labels r ≡ true). rw (e, or_has (get_or r place 0) (get_or labels place 0) (in_at r labels place h ((held labels r).0 e))) (supports_full labels place rows h))
+    (λ (e : holds labels r ≡ false). rw e (supports_full labels place rows h))
+    (cases_Bool (holds labels r))
+
+-- the rows after the one with which the label is whole
+pub supports_whole : (labels : List ℕ) (place start : ℕ) (rows : List (List ℕ)) (n seen : ℕ) → place < length labels → seen ≡ get_or labels place 0
+    → seen ≡ supports labels place start (take n rows) → seen ≡ supports labels place start rows
+supports_whole labels place start rows n seen h whole said =
+    whole ∙ sym (supports_full labels place (drop n rows) h)
+    ∙ ap (λ (a : ℕ). supports labels place a (drop n rows)) (sym whole ∙ said)
+    ∙ sym (fold-append _ start (take n rows) (drop n rows))
+    ∙ ap (supports labels place start) (take-append-drop n rows)

@@ -39,6 +39,10 @@ impl TableRule<'_> {
         for row in rows.take(self.cells.count) {
             if is_held(row, labels) {
                 seen |= 1 << row[place];
+                // Each number of the label has a row, and a row that is held has no other.
+                if seen == labels[place] {
+                    return seen;
+                }
             }
         }
         seen
