@@ -37,12 +37,12 @@ impl TableRule<'_> {
         let rows = self.cells.rows.chunks_exact(self.cells.slots.len());
         let mut seen = start;
         for row in rows.take(self.cells.count) {
+            // Each number of the label has a row, and a row that is held has no other.
+            if seen == labels[place] {
+                return seen;
+            }
             if is_held(row, labels) {
                 seen |= 1 << row[place];
-                // Each number of the label has a row, and a row that is held has no other.
-                if seen == labels[place] {
-                    return seen;
-                }
             }
         }
         seen
